@@ -1,0 +1,9 @@
+pub mod Sha256
+pub mod Examples
+pub mod Records
+pub mod Verifier
+pub mod Monitor
+pub mod Order
+pub mod Readable
+pub mod Statements
+pub mod Program
