@@ -67,19 +67,18 @@ One-order s = (os : List Call) × ((gets-right os ≡ true) × ((t : ℕ) → of
 
 -- ---- collisions in the log itself
 
-unfoldable pub Member : {A : Type 0} → A → List A → Type 0
+abbrev pub Member : {A : Type 0} → A → List A → Type 0
 Member x [] = ⊥
 Member x (y ∷ ys) = (x ≡ y) ⊎ Member x ys
 
 -- two records that were hashed, with other bytes and one hash
-abbrev pub Value-collision : State → Type 0
-Value-collision s =
-    (r q : Record) × (Member r (s .hashed) × Member q (s .hashed) × (same-bytes (merkle-bytes r) (merkle-bytes q) ≡ false) × (merkle-hash r ≡ merkle-hash q))
+abbrev pub Values-collide : List Record → Type 0
+Values-collide hs = (r q : Record) × (Member r hs × Member q hs × (same-bytes (merkle-bytes r) (merkle-bytes q) ≡ false) × (merkle-hash r ≡ merkle-hash q))
 
 -- two keys of records that were hashed, with one SHA-256
-abbrev pub Key-collision : State → Type 0
-Key-collision s =
-    (j k : Bytes) × ((v w : Value) × (Member (data-record j v) (s .hashed) × Member (data-record k w) (s .hashed) × (same-bytes j k ≡ false) × (sha256 j ≡ sha256 k)))
+abbrev pub Keys-collide : List Record → Type 0
+Keys-collide hs =
+    (j k : Bytes) × ((v w : Value) × (Member (data-record j v) hs × Member (data-record k w) hs × (same-bytes j k ≡ false) × (sha256 j ≡ sha256 k)))
 
 -- how often an element is among others of its epoch, by its bytes
 unfoldable pub times-in : Element → List Element → ℕ
@@ -87,15 +86,15 @@ times-in x [] = 0
 times-in x (y ∷ ys) = pick (eqb (y .timestamp .epoch) (x .timestamp .epoch) && same-bytes (element-bytes x) (element-bytes y)) 1 0 + times-in x ys
 
 -- an element of a certified epoch that was added, but not as often as it was evicted, although the epoch's sums are the same
-abbrev pub Sum-collision : State → Type 0
-Sum-collision s =
+abbrev pub Sums-collide : State → Type 0
+Sums-collide s =
     (x : Element) × (Member x (s .adds) × (x .timestamp .epoch < s .certified) × (times-in x (s .adds) ≡ times-in x (s .evicts) → ⊥)
     × (sum-at (s .sums) (x .timestamp .epoch) .added ≡ sum-at (s .sums) (x .timestamp .epoch) .evicted))
 
 -- ---- THE MAIN PROMISE: after any log, by anyone, all that was asked in certified epochs is in one order, or two things in this very log collide
 
 abbrev pub One-order-or-collision : State → Type 0
-One-order-or-collision s = One-order s ⊎ (Value-collision s ⊎ (Key-collision s ⊎ Sum-collision s))
+One-order-or-collision s = One-order s ⊎ (Values-collide (s .hashed) ⊎ (Keys-collide (s .hashed) ⊎ Sums-collide s))
 
 unfoldable pub Certified-is-one : Type 0
 Certified-is-one = (l : Limits) (es : List Event) → One-order-or-collision (state l es)
@@ -109,7 +108,7 @@ One-order-now s = gets-right (s .calls) ≡ true
 
 unfoldable pub One-by-the-tree : Type 0
 One-by-the-tree =
-    (l : Limits) (es : List Event) → ((k : ℕ) → l .supports k ≡ merkle-only k) → One-order-now (state l es) ⊎ (Value-collision (state l es) ⊎ Key-collision (state l es))
+    (l : Limits) (es : List Event) → ((k : ℕ) → l .supports k ≡ merkle-only k) → One-order-now (state l es) ⊎ (Values-collide (state l es .hashed) ⊎ Keys-collide (state l es .hashed))
 
 abbrev pub all-entries : ℕ → Bool
 all-entries k = true
