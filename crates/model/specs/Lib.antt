@@ -7,3 +7,4 @@ pub mod Order
 pub mod Readable
 pub mod Statements
 pub mod Program
+pub mod TwoVerifiers
