@@ -1,7 +1,6 @@
 -- The digests of three messages, as the standard's examples have them: of no bytes, of "abc", and of fifty-six bytes, which fill two blocks.
 use mathlib.Core.Path.{_≡_}
-use mathlib.Core.List.{List, [], _∷_}
-use Prim.Native.Nat.{ℕ}
+use mathlib.Core.List.{[], _∷_}
 use lib.Chars.{codes}
 use Rattle.model.specs.Sha256.{sha256}
 

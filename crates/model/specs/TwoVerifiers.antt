@@ -1,15 +1,14 @@
 -- Two verifiers at work, as logs that are computed: so no promise holds for want of a log, and each rule is seen to bite.
 -- The key d has a path that begins 000, and b one that begins 001. Logs have the last event first.
 use mathlib.Core.Path.{_≡_}
-use mathlib.Core.Bool.{true, false}
-use mathlib.Core.List.{List, [], _∷_, _++_}
+use mathlib.Core.List.{List, [], _∷_}
 use Prim.Native.Nat.{ℕ}
 use lib.ListN.{length, replicate}
 use Rattle.std.specs.declared.option.Option.the-variants.{None, Some}
 use Rattle.model.specs.Records.{Bytes, Path, key-path, no-children, data-record, node}
-use Rattle.model.specs.Verifier.{Timestamp, Entry, add-merkle, add-blum, evict-merkle, evict-blum, evict-blum-merkle, next-epoch, verify-epoch, get, set, Element}
-use Rattle.model.specs.Monitor.{Limits, Event, logged, Answer, refused, wrong, right, certified, Call, State, verifier-at, answer, state}
-use Rattle.model.specs.Order.{certified-calls, gets-right, all-entries}
+use Rattle.model.specs.Verifier.{Timestamp, add-merkle, add-blum, evict-merkle, evict-blum, evict-blum-merkle, next-epoch, verify-epoch, get, set}
+use Rattle.model.specs.Monitor.{Limits, Event, logged, Answer, wrong, right, certified, verifier-at, answer, state}
+use Rattle.model.specs.Order.{all-entries}
 
 abbrev pub limits : Limits
 limits = record { supports = all-entries; verifiers = 2; places = 4; epochs = 2; secret = replicate 32 7 }

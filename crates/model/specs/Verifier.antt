@@ -4,7 +4,7 @@ use mathlib.Core.List.{List, [], _∷_}
 use Prim.Native.Nat.{ℕ, suc}
 use lib.Dec.{ltb, leb, eqb}
 use lib.ListN.{length}
-use Rattle.std.specs.declared.option.Option.the-variants.{None, Some}
+use Rattle.std.specs.declared.option.Option.the-variants.{Some}
 use Rattle.model.specs.Records.{pick, Bytes, same-bytes, less-bytes, Path, key-path, below, side, Pointer, absent, present, child-on, with-child, no-children, Value, same-value, Record, data-record, node, path-of, is-data, children-of, is-initial, merkle-hash}
 
 -- ---- time

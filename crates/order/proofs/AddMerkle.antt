@@ -3,22 +3,21 @@ use mathlib.Core.Path.{_≡_, refl, sym, ap, ap₂, subst, _∙_}
 use mathlib.Core.Logic.{_⊎_, inl, inr}
 use mathlib.Core.Bool.{Bool, true, false, _&&_}
 use mathlib.Core.List.{List, [], _∷_, _++_}
-use Prim.Native.Nat.{ℕ, _≤_, _<_}
+use Prim.Native.Nat.{ℕ}
 use native.Mathlib.Omega.{arith}
 use lib.Dec.{eqb}
-use lib.ListN.{length}
 use Rattle.std.proofs.shelf.Tests.{false≢true, and-parts, ne-eqb}
 use Rattle.std.specs.declared.option.Option.the-variants.{None, Some}
-use Rattle.model.specs.Records.{pick, same-bytes, Path, Bytes, Value, key-path, below, side, Pointer, absent, present, Children, child-on, with-child, Record, data-record, node, path-of, is-data, is-absent, is-initial, same-value, children-of, merkle-bytes, merkle-hash}
-use Rattle.model.specs.Verifier.{Entry, add-merkle, Stored, Verifier, find, updated, Element, goes, goes-to, with-record}
-use Rattle.model.specs.Monitor.{Call, entry-code, called}
+use Rattle.model.specs.Records.{pick, same-bytes, Path, Bytes, Value, key-path, below, side, Pointer, absent, present, Children, with-child, Record, data-record, node, path-of, is-data, is-absent, is-initial, same-value, children-of, merkle-bytes, merkle-hash}
+use Rattle.model.specs.Verifier.{add-merkle, Stored, Verifier, find, updated, Element, goes, goes-to, with-record}
+use Rattle.model.specs.Monitor.{Call, entry-code}
 use Rattle.model.specs.Order.{value-after, get-right, Member}
-use Rattle.order.proofs.Paths.{same-is, below-self, below-trans, left-of, sd-through}
+use Rattle.order.proofs.Paths.{same-is, below-self, below-trans, left-of, left-through}
 use Rattle.order.proofs.Lists.{picks-not}
 use Rattle.order.proofs.Bytes.{Fit-pointer, Fit-record, path-fits, Keys-differ, merkle-tells}
 use Rattle.order.proofs.Shape.{in-use, forks, arm, Cover, upd, upd-at, upd-off, same-side}
-use Rattle.order.proofs.World.{Where, at, away-merkle, away-blum, Spot, unused, spot, World, merkle-at, merkle-away, kind, loc, Ptr, Tree, targets, form, half, with-half, side-of, arm-form, known, unknown, lone, on-half, with-side-half, half-same, half-other, insert-tree, ptr-more}
-use Rattle.order.proofs.Rest.{seen-by, seen-here, Value-of, Rest, rest-changed, rest-come}
+use Rattle.order.proofs.World.{Where, at, away-merkle, away-blum, Spot, unused, spot, World, merkle-at, merkle-away, kind, loc, Ptr, Tree, targets, form, half, with-half, side-of, arm-form, known, unknown, lone, child-on-half, with-child-half, half-same, half-other, insert-tree, ptr-more}
+use Rattle.order.proofs.Placed.{seen-by, seen-here, Value-of, Placed, placed-updated, placed-added}
 use Rattle.order.proofs.Moves.{ptr-loc, move}
 use Rattle.order.proofs.Ways.{Above, pointer-to, with-new-child, node-over}
 use Rattle.order.proofs.Invariant.{Inv, Collide, Keeps, Then, keep, never, fit-half, fit-halves, setn, setn-at, found-above}
@@ -105,7 +104,7 @@ module _ (hs : ℕ → List Stored) (H : List Record) (bs : List Call) (P : Elem
         ms = setn hs t l
 
         same-list : updated (node q (with-child v (side x q) (present x 0 false))) (c .store) ≡ l
-        same-list = ap₂ (λ a b. updated (node q a) b) (with-side-half v (side x q) (present x 0 false)) isc
+        same-list = ap₂ (λ a b. updated (node q a) b) (with-child-half v (side x q) (present x 0 false)) isc
 
         off-list : (u : ℕ) → (u ≡ t → ⊥) → ms u ≡ hs u
         off-list u m = picks-not (eqb u t) l (hs u) (ne-eqb u t m)
@@ -117,13 +116,13 @@ module _ (hs : ℕ → List Stored) (H : List Record) (bs : List Call) (P : Elem
             (upd-off (upd W q s) x (spot n (at t true)) q (λ i. x≢q (sym i)) ∙ upd-at W q s q refl)
             (λ z m k. upd-off (upd W q s) x (spot n (at t true)) z m ∙ upd-off W q s z k)
 
-        middle : Rest ms bs P (upd W q s)
+        middle : Placed ms bs P (upd W q s)
         middle =
-            rest-changed hs ms bs P W t (I .rest) off-list bs q (node q v) (node q v′) bt isq refl (setn-at hs t l) fit-q (λ k i. tt) (λ k m. refl)
+            placed-updated hs ms bs P W t (I .rest) off-list bs q (node q v) (node q v′) bt isq refl (setn-at hs t l) fit-q (λ k i. tt) (λ k m. refl)
 
-        rests : Rest gs bs P V
+        rests : Placed gs bs P V
         rests =
-            rest-come ms gs bs P (upd W q s) t middle (λ u m. others u m ∙ sym (off-list u m)) P x n true
+            placed-added ms gs bs P (upd W q s) t middle (λ u m. others u m ∙ sym (off-list u m)) P x n true
             (λ u. ap (seen-by u) (upd-off W q s x x≢q ∙ nil)) pn
             (g ∙ ap (λ a. record { rec = n; by-merkle = true } ∷ a) (same-list ∙ sym (setn-at hs t l))) fn val
             away
@@ -170,7 +169,7 @@ module _ (hs : ℕ → List Stored) (H : List Record) (bs : List Call) (P : Elem
         new : (d : Bool) → forks (form (spot r (at t true))) ≡ true → Cover (λ z. form (W z)) x d (arm (form (spot r (at t true))) d)
         new d u =
             rw (arm-form (spot r (at t true)) d ∙ ap targets (initial-side r (at t true) d f))
-            (record { head = tt; all = λ y i b s. none y i (below-trans y x q b bx) (sd-through y x q b bx) })
+            (record { head = tt; all = λ y i b s. none y i (below-trans y x q b bx) (left-through y x q b bx) })
 
     -- something was below: a new node over it
     case-c : (p : Path) (h : ℕ) (b : Bool) → half v (left-of x q) ≡ present p h b → is-initial r ≡ true → is-data r ≡ false → below p x ≡ true → (gs : ℕ → List Stored) →
@@ -179,7 +178,7 @@ module _ (hs : ℕ → List Stored) (H : List Record) (bs : List Call) (P : Elem
     unfolding path-of children-of
     case-c p h b e f k bp gs g others =
         inserted n refl fits (λ j i. tt) between new news nil gs
-        (g ∙ ap (λ a. record { rec = node x a; by-merkle = true } ∷ updated (node q (with-child v (side x q) (present x 0 false))) (c .store)) (with-side-half (children-of r) (side p x) (present p h b)))
+        (g ∙ ap (λ a. record { rec = node x a; by-merkle = true } ∷ updated (node q (with-child v (side x q) (present x 0 false))) (c .store)) (with-child-half (children-of r) (side p x) (present p h b)))
         others
       where
         n : Record
@@ -208,7 +207,7 @@ module _ (hs : ℕ → List Stored) (H : List Record) (bs : List Call) (P : Elem
         new d u = go (same-side d (left-of p x))
           where
             all-here : (y : Path) → in-use (form (W y)) ≡ true → below y x ≡ true → (y ≡ p) ⊎ (below y p ≡ true)
-            all-here y i j = cov .all y i (below-trans y x q j bx) (sd-through y x q j bx)
+            all-here y i j = cov .all y i (below-trans y x q j bx) (left-through y x q j bx)
 
             go : (d ≡ left-of p x) ⊎ (d ≡ left-of p x → ⊥) → Cover (λ z. form (W z)) x d (arm (form (spot n (at t true))) d)
             go (inl i) =
@@ -220,7 +219,7 @@ module _ (hs : ℕ → List Stored) (H : List Record) (bs : List Call) (P : Elem
               where
                 off : (y : Path) → (y ≡ p) ⊎ (below y p ≡ true) → left-of y x ≡ d → ⊥
                 off y (inl j) s = m (sym s ∙ ap (λ a. left-of a x) j)
-                off y (inr j) s = m (sym s ∙ sd-through y p x j bp)
+                off y (inr j) s = m (sym s ∙ left-through y p x j bp)
 
         news : (d : Bool) (o : Path) (g′ : ℕ) (a : Bool) → side-of (spot n (at t true)) d ≡ present o g′ a → Ptr H (t ∷ []) g′ a (kind (W o))
         news d o g′ a j = go (same-side d (left-of p x))
@@ -271,9 +270,9 @@ module _ (hs : ℕ → List Stored) (H : List Record) (bs : List Call) (P : Elem
                 into : (z : Path) (d : Bool) (f : ℕ) (a′ : Bool) → side-of (W z) d ≡ present x f a′ → Ptr H (loc (W z)) f a′ (merkle-away r) → Ptr (r ∷ H) (loc (W z)) f a′ (merkle-at t)
                 into z d f a′ l m = (m .0, ap (λ y. loc (W y)) (lone H W (I .tree) q z x (left-of x q) d (merkle-hash r) f false a′ known-x l .0) ∙ ap loc isq)
 
-            rests : Rest gs bs P (upd W x (spot r (at t true)))
+            rests : Placed gs bs P (upd W x (spot r (at t true)))
             rests =
-                rest-come hs gs bs P W t (I .rest) others P x r true (λ u. ap (seen-by u) isx) refl (g ∙ ap (λ y. record { rec = r; by-merkle = true } ∷ y) isc) fr
+                placed-added hs gs bs P W t (I .rest) others P x r true (λ u. ap (seen-by u) isx) refl (g ∙ ap (λ y. record { rec = r; by-merkle = true } ∷ y) isc) fr
                 (λ l m. rw (m, isx) at (I .rest .value l)) away
               where
                 away : (y : Element) → P y → P y × (path-of (y .rec) ≡ x → ⊥)
@@ -325,7 +324,7 @@ module _ (hs : ℕ → List Stored) (H : List Record) (bs : List Call) (P : Elem
     gone-t = ap (find (path-of r)) (sym isc) ∙ gone
 
     half-is : (s : Pointer) → pointer-to (path-of r) q y ≡ s → half (children-of (y .rec)) (left-of (path-of r) q) ≡ s
-    half-is s e = sym (on-half (children-of (y .rec)) (side (path-of r) q)) ∙ e
+    half-is s e = sym (child-on-half (children-of (y .rec)) (side (path-of r) q)) ∙ e
 
     pub keeps-new-child : pointer-to (path-of r) q y ≡ absent → is-initial r ≡ true → Keeps hs H bs P t (add-merkle r q) (goes-to (with-new-child c r q y r))
     unfolding pick entry-code get-right

@@ -1,20 +1,19 @@
 -- What is hashed can be told by its bytes: a digest is 32 bytes, a key's path tells its digest, and each encoding is injective.
-use mathlib.Core.Path.{_≡_, refl, sym, ap, ap₂, subst, _∙_, fun-ext}
+use mathlib.Core.Path.{_≡_, refl, sym, ap, ap₂, _∙_}
 use mathlib.Core.Logic.{_⊎_, inl, inr}
-use mathlib.Core.Bool.{Bool, true, false, not, _&&_, _||_}
+use mathlib.Core.Bool.{Bool, true, false}
 use mathlib.Core.List.{List, [], _∷_, _++_, append-assoc}
 use Prim.Native.Nat.{ℕ, zero, suc, _+_, _*_, _/_, _%_, _^_, _≤_, _<_}
 use native.Mathlib.Omega.{arith}
 use native.Mathlib.Nat.{pow-succ'}
 use Rattle.std.proofs.shelf.Lists.{length-append}
-use lib.Dec.{ltb, leb, eqb}
 use lib.ListN.{length, take, drop}
 use Rattle.std.specs.declared.option.Option.the-variants.{None, Some}
 use Rattle.model.specs.Sha256.{round-constants, State, initial-state, extend-schedule, rounds, add-states, be-words, be-bytes, padded, compress, state-bytes, sha256}
 use Rattle.model.specs.Records.{pick, Bytes, same-bytes, bits, bits-of-bytes, key-path, node, Pointer, absent, present, Children, Value, Record, data-record, path-of, le-bytes, le-number, sized-bytes, pointer-bytes, value-bytes, merkle-bytes, record-bytes, hash-of}
 use Rattle.model.specs.Verifier.{Element}
 use Rattle.model.specs.Monitor.{modulus, element-bytes}
-use Rattle.order.proofs.Paths.{same-is, same-or, not-same}
+use Rattle.order.proofs.Paths.{same-or, not-same}
 
 abbrev pub Small : List ℕ → Type 0
 Small [] = Unit

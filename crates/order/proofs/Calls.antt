@@ -1,26 +1,23 @@
 -- AddBlum whose element is away keeps the invariant; so do the epochs' entries, a get and a set, and a get has what was set last.
-use mathlib.Core.Path.{_≡_, refl, sym, ap, ap₂, subst, _∙_}
+use mathlib.Core.Path.{_≡_, refl, sym, ap, _∙_}
 use mathlib.Core.Logic.{_⊎_, inl, inr}
 use mathlib.Core.Bool.{Bool, true, false}
-use mathlib.Core.List.{List, [], _∷_, _++_}
-use Prim.Native.Nat.{ℕ, _≤_, _<_}
-use native.Mathlib.Omega.{arith}
-use lib.Dec.{eqb}
-use lib.ListN.{length}
+use mathlib.Core.List.{List, [], _∷_}
+use Prim.Native.Nat.{ℕ}
 use Rattle.std.proofs.shelf.Tests.{cases-eq}
 use Rattle.std.specs.declared.option.Option.the-variants.{None, Some}
-use Rattle.model.specs.Records.{pick, Bytes, same-bytes, Path, key-path, Pointer, present, Value, same-value, Record, data-record, node, path-of}
-use Rattle.model.specs.Verifier.{Timestamp, Entry, add-blum, next-epoch, verify-epoch, get, set, Stored, Verifier, find, updated, Element, goes, goes-to}
-use Rattle.model.specs.Monitor.{Call, entry-code, called}
-use Rattle.model.specs.Order.{value-after-entry, value-after, get-right, Member}
-use Rattle.order.proofs.Paths.{same-is, same-refl, is-same, not-same, same-or}
+use Rattle.model.specs.Records.{pick, Bytes, same-bytes, Path, key-path, present, Value, same-value, Record, data-record, path-of}
+use Rattle.model.specs.Verifier.{Timestamp, add-blum, next-epoch, verify-epoch, get, set, Stored, Verifier, find, updated, Element, goes, goes-to}
+use Rattle.model.specs.Monitor.{Call, entry-code}
+use Rattle.model.specs.Order.{value-after-entry, value-after, get-right}
+use Rattle.order.proofs.Paths.{same-refl, is-same, not-same, same-or}
 use Rattle.order.proofs.Lists.{picks, picks-not}
 use Rattle.order.proofs.Shape.{upd, upd-at, upd-off, shape-same}
-use Rattle.order.proofs.World.{at, away-blum, Spot, spot, World, kind-at, kind, loc, Ptr, Tree, form, side-of}
-use Rattle.order.proofs.Rest.{seen-by, Rest, rest-changed, rest-come}
+use Rattle.order.proofs.World.{at, away-blum, spot, World, kind-at, kind, loc, Ptr, Tree, form, side-of}
+use Rattle.order.proofs.Placed.{seen-by, placed-updated, placed-added}
 use Rattle.order.proofs.Moves.{ptr-loc, move}
 use Rattle.order.proofs.Ways.{Found, added-by-blum, in-next-epoch, done-with-one, with-value}
-use Rattle.order.proofs.Invariant.{Inv, Then, Keeps, rest-less, no-elements, found-here}
+use Rattle.order.proofs.Invariant.{Inv, Then, Keeps, placed-less, no-elements, found-here}
 
 same-value-refl : (v : Value) → same-value v v ≡ true
 unfolding same-value
@@ -45,7 +42,7 @@ module _ (hs : ℕ → List Stored) (H : List Record) (bs : List Call) (P : Elem
           record {
             world = upd W (path-of r) (spot r (at t false));
             tree = move H H W (path-of r) r (away-blum m j) (at t false) (I .tree) isx (λ l h b k x. x) (λ d y h b n e k. ptr-loc H (t ∷ []) h b (kind (W y)) k) (λ z d h b e k. k);
-            rest = rest-come hs gs bs P W t (I .rest) others (Then P (el ∷ []) []) (path-of r) r false (λ u. ap (seen-by u) isx) refl
+            rest = placed-added hs gs bs P W t (I .rest) others (Then P (el ∷ []) []) (path-of r) r false (λ u. ap (seen-by u) isx) refl
                 (g ∙ ap (λ y. record { rec = r; by-merkle = false } ∷ y) isc) ((rw isx at (I .rest .fit (path-of r))) .1) (λ l i. rw (i, isx) at (I .rest .value l)) pends;
           }
         where
@@ -131,8 +128,8 @@ module _ (hs : ℕ → List Stored) (H : List Record) (bs : List Call) (P : Elem
         record {
           world = V;
           tree = tree-set k u (Some w) (x .by-merkle) isk;
-          rest = rest-less gs cs P (Then P [] []) V (no-elements P)
-              (rest-changed hs gs bs P W t (I .rest) others cs (key-path k) (data-record k u) (data-record k (Some w)) (x .by-merkle) isk refl
+          rest = placed-less gs cs P (Then P [] []) V (no-elements P)
+              (placed-updated hs gs bs P W t (I .rest) others cs (key-path k) (data-record k u) (data-record k (Some w)) (x .by-merkle) isk refl
               (g ∙ ap (updated (data-record k (Some w))) isc) fits
               (λ j i l. picks (same-bytes k j) (Some w) (value-after bs j) (is-same k j l))
               (λ j n. picks-not (same-bytes k j) (Some w) (value-after bs j) (not-same k j (λ i. n (ap key-path (sym i))))));

@@ -1,15 +1,15 @@
 -- The one-order theorem: all that was asked in certified epochs is in one order, or two things in this very log collide.
-use mathlib.Core.Path.{_≡_, refl, sym, ap, ap₂, subst, _∙_}
+use mathlib.Core.Path.{_≡_, refl, sym, ap, subst, _∙_}
 use mathlib.Core.Logic.{_⊎_, inl, inr}
-use mathlib.Core.Bool.{Bool, true, false}
+use mathlib.Core.Bool.{true}
 use mathlib.Core.List.{List, [], _∷_}
 use Prim.Native.Nat.{ℕ, _≤_, _<_}
 use native.Mathlib.Omega.{arith}
 use lib.ListN.{length}
 use Rattle.std.proofs.shelf.Tests.{cases-eq, cases-lt}
 use Rattle.model.specs.Verifier.{Element}
-use Rattle.model.specs.Monitor.{Limits, Event, State, state}
-use Rattle.model.specs.Order.{gets-right, in-epochs-below, of-verifier, times-in, Member, One-order, Sums-collide, One-order-or-collision, Certified-is-one}
+use Rattle.model.specs.Monitor.{State, state}
+use Rattle.model.specs.Order.{gets-right, in-epochs-below, of-verifier, times-in, Member, One-order-or-collision, Certified-is-one}
 use Rattle.order.proofs.Invariant.{Inv, Collide}
 use Rattle.order.proofs.Replay.{Replayed, adds-of, evicts-of, hashes-of, calls-of, Pending, stores-after, replay-right}
 use Rattle.order.proofs.Log.{Replays, state-replay}

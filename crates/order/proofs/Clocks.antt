@@ -1,29 +1,29 @@
 -- Clocks go on: an AddBlum leaves the clock past the timestamp that it names, an evict by Blum at it.
-use mathlib.Core.Path.{_≡_, refl, sym, ap, ap₂, subst, _∙_, fun-ext}
+use mathlib.Core.Path.{_≡_, refl, sym, ap, subst, _∙_}
 use mathlib.Core.Logic.{_⊎_, inl, inr}
 use mathlib.Core.Bool.{Bool, true, false, not, _&&_, _||_}
-use mathlib.Core.List.{List, [], _∷_, _++_}
-use Prim.Native.Nat.{ℕ, zero, suc, _+_, _≤_, _<_}
+use mathlib.Core.List.{List, [], _∷_}
+use Prim.Native.Nat.{ℕ, _≤_, _<_}
 use native.Mathlib.Omega.{arith}
-use lib.Dec.{ltb, leb, eqb}
+use lib.Dec.{ltb, eqb}
 use lib.ListN.{length}
-use Rattle.std.proofs.shelf.Tests.{false≢true, true≢false, both-ways, and-parts, and-from, and-cases, or-cases, or-parts, eqb-true, eqb-false, eq-eqb, ltb-true, ltb-false, leb-true, not-true, cases-bool, cases-eq, or-left, or-right, lt-ltb}
+use Rattle.std.proofs.shelf.Tests.{false≢true, both-ways, and-parts, and-from, and-cases, or-cases, or-parts, eqb-true, eqb-false, eq-eqb, ltb-true, ltb-false, not-true, or-left, or-right, lt-ltb}
 use Rattle.model.specs.Records.{pick, less-bytes, Path, Record, path-of}
 use Rattle.model.specs.Verifier.{Timestamp, earlier, later, just-after, earlier-with, Entry, Stored, Verifier, goes, Element, Step, fails, with-store, verifier-step}
 use Rattle.order.proofs.Lists.{picks, picks-not, All}
 use Rattle.order.proofs.Stores.{find-path}
 use Rattle.order.proofs.Ways.{Found, Evictable, added-by-blum, evicted-at, marked-blum, element, by-ways}
 
-abbrev pub Mle : Timestamp → Timestamp → Type 0
-Mle a b = (a .epoch ≤ b .epoch) × (a .epoch ≡ b .epoch → a .counter ≤ b .counter)
+abbrev pub Upto : Timestamp → Timestamp → Type 0
+Upto a b = (a .epoch ≤ b .epoch) × (a .epoch ≡ b .epoch → a .counter ≤ b .counter)
 
-abbrev pub Mlt : Timestamp → Timestamp → Type 0
-Mlt a b = (a .epoch ≤ b .epoch) × (a .epoch ≡ b .epoch → a .counter < b .counter)
+abbrev pub Before : Timestamp → Timestamp → Type 0
+Before a b = (a .epoch ≤ b .epoch) × (a .epoch ≡ b .epoch → a .counter < b .counter)
 
-pub before-true : (a b : Timestamp) → earlier a b ≡ true → Mlt a b
-before-true a b e = go (or-cases (ltb (a .epoch) (b .epoch)) (eqb (a .epoch) (b .epoch) && ltb (a .counter) (b .counter)) e)
+pub earlier-before : (a b : Timestamp) → earlier a b ≡ true → Before a b
+earlier-before a b e = go (or-cases (ltb (a .epoch) (b .epoch)) (eqb (a .epoch) (b .epoch) && ltb (a .counter) (b .counter)) e)
   where
-    go : (ltb (a .epoch) (b .epoch) ≡ true) ⊎ ((eqb (a .epoch) (b .epoch) && ltb (a .counter) (b .counter)) ≡ true) → Mlt a b
+    go : (ltb (a .epoch) (b .epoch) ≡ true) ⊎ ((eqb (a .epoch) (b .epoch) && ltb (a .counter) (b .counter)) ≡ true) → Before a b
     go (inl i) = let h = ltb-true (a .epoch) (b .epoch) i in omega arith
     go (inr j) =
         let k = and-parts (eqb (a .epoch) (b .epoch)) (ltb (a .counter) (b .counter)) j in
@@ -31,8 +31,8 @@ before-true a b e = go (or-cases (ltb (a .epoch) (b .epoch)) (eqb (a .epoch) (b 
         let y = ltb-true (a .counter) (b .counter) (k .1) in
         omega arith
 
-pub before-false : (a b : Timestamp) → earlier a b ≡ false → Mle b a
-before-false a b e = go (and-cases (eqb (a .epoch) (b .epoch)) (ltb (a .counter) (b .counter)) (h .1))
+pub earlier-not : (a b : Timestamp) → earlier a b ≡ false → Upto b a
+earlier-not a b e = go (and-cases (eqb (a .epoch) (b .epoch)) (ltb (a .counter) (b .counter)) (h .1))
   where
     h : (ltb (a .epoch) (b .epoch) ≡ false) × ((eqb (a .epoch) (b .epoch) && ltb (a .counter) (b .counter)) ≡ false)
     h = or-parts (ltb (a .epoch) (b .epoch)) (eqb (a .epoch) (b .epoch) && ltb (a .counter) (b .counter)) e
@@ -40,37 +40,37 @@ before-false a b e = go (and-cases (eqb (a .epoch) (b .epoch)) (ltb (a .counter)
     first : b .epoch ≤ a .epoch
     first = ltb-false (a .epoch) (b .epoch) (h .0)
 
-    go : (eqb (a .epoch) (b .epoch) ≡ false) ⊎ (ltb (a .counter) (b .counter) ≡ false) → Mle b a
+    go : (eqb (a .epoch) (b .epoch) ≡ false) ⊎ (ltb (a .counter) (b .counter) ≡ false) → Upto b a
     go (inl i) = (first, λ j. absurd (eqb-false (a .epoch) (b .epoch) i (sym j)))
     go (inr i) = (first, λ j. ltb-false (a .counter) (b .counter) i)
 
-pub mlt-le : (a b : Timestamp) → Mlt a b → Mle a b
-mlt-le a b h = (h .0, λ e. let k = h .1 e in omega arith)
+pub before-upto : (a b : Timestamp) → Before a b → Upto a b
+before-upto a b h = (h .0, λ e. let k = h .1 e in omega arith)
 
-pub mle-trans : (a b c : Timestamp) → Mle a b → Mle b c → Mle a c
-mle-trans a b c h k = (omega arith, λ e. let x : a .epoch ≡ b .epoch = omega arith in let y : b .epoch ≡ c .epoch = omega arith in let u = h .1 x in let v = k .1 y in omega arith)
+pub upto-trans : (a b c : Timestamp) → Upto a b → Upto b c → Upto a c
+upto-trans a b c h k = (omega arith, λ e. let x : a .epoch ≡ b .epoch = omega arith in let y : b .epoch ≡ c .epoch = omega arith in let u = h .1 x in let v = k .1 y in omega arith)
 
-pub mlt-le-trans : (a b c : Timestamp) → Mlt a b → Mle b c → Mlt a c
-mlt-le-trans a b c h k = (omega arith, λ e. let x : a .epoch ≡ b .epoch = omega arith in let y : b .epoch ≡ c .epoch = omega arith in let u = h .1 x in let v = k .1 y in omega arith)
+pub before-upto-trans : (a b c : Timestamp) → Before a b → Upto b c → Before a c
+before-upto-trans a b c h k = (omega arith, λ e. let x : a .epoch ≡ b .epoch = omega arith in let y : b .epoch ≡ c .epoch = omega arith in let u = h .1 x in let v = k .1 y in omega arith)
 
-pub mle-lt-trans : (a b c : Timestamp) → Mle a b → Mlt b c → Mlt a c
-mle-lt-trans a b c h k = (omega arith, λ e. let x : a .epoch ≡ b .epoch = omega arith in let y : b .epoch ≡ c .epoch = omega arith in let u = h .1 x in let v = k .1 y in omega arith)
+pub upto-before-trans : (a b c : Timestamp) → Upto a b → Before b c → Before a c
+upto-before-trans a b c h k = (omega arith, λ e. let x : a .epoch ≡ b .epoch = omega arith in let y : b .epoch ≡ c .epoch = omega arith in let u = h .1 x in let v = k .1 y in omega arith)
 
-pub mlt-not : (a b : Timestamp) → Mlt a b → Mle b a → ⊥
-mlt-not a b h k = let x : a .epoch ≡ b .epoch = omega arith in let u = h .1 x in let v = k .1 (sym x) in omega arith
+pub before-not : (a b : Timestamp) → Before a b → Upto b a → ⊥
+before-not a b h k = let x : a .epoch ≡ b .epoch = omega arith in let u = h .1 x in let v = k .1 (sym x) in omega arith
 
-pub mle-both : (a b : Timestamp) → Mle a b → Mle b a → a ≡ b
-mle-both a b h k =
+pub upto-both : (a b : Timestamp) → Upto a b → Upto b a → a ≡ b
+upto-both a b h k =
     let x : a .epoch ≡ b .epoch = omega arith in
     let u = h .1 x in
     let v = k .1 (sym x) in
     let y : a .counter ≡ b .counter = omega arith in
     (λ i. record { epoch = x i; counter = y i })
 
-pub mle-refl : (a : Timestamp) → Mle a a
-mle-refl a = omega arith
+pub upto-refl : (a : Timestamp) → Upto a a
+upto-refl a = omega arith
 
--- texts in order
+-- paths in order
 pub less-self : (x : List ℕ) → less-bytes x x ≡ true → ⊥
 unfolding less-bytes
 less-self [] e = false≢true e
@@ -103,25 +103,25 @@ less-trans (x ∷ xs) (y ∷ ys) (z ∷ zs) e f =
         let k = and-parts (eqb y z) (less-bytes ys zs) b in
         or-right (ltb x z) (eqb x z && less-bytes xs zs) (and-from (eqb x z) (less-bytes xs zs) (eq-eqb x z (eqb-true x y (h .0) ∙ eqb-true y z (k .0))) (r (h .1) (k .1)))
 
--- a moment with a path, before another or the same
-abbrev pub Lt : Timestamp → Path → Timestamp → Path → Type 0
-Lt a p b q = Mlt a b ⊎ ((a ≡ b) × (less-bytes p q ≡ true))
+-- a timestamp with a path, before another or not after it
+abbrev pub Before-with : Timestamp → Path → Timestamp → Path → Type 0
+Before-with a p b q = Before a b ⊎ ((a ≡ b) × (less-bytes p q ≡ true))
 
-abbrev pub Le : Timestamp → Path → Timestamp → Path → Type 0
-Le a p b q = Mlt a b ⊎ ((a ≡ b) × ((p ≡ q) ⊎ (less-bytes p q ≡ true)))
+abbrev pub Upto-with : Timestamp → Path → Timestamp → Path → Type 0
+Upto-with a p b q = Before a b ⊎ ((a ≡ b) × ((p ≡ q) ⊎ (less-bytes p q ≡ true)))
 
-pub lt-le : (a : Timestamp) (p : Path) (b : Timestamp) (q : Path) → Lt a p b q → Le a p b q
-lt-le a p b q (inl h) = inl h
-lt-le a p b q (inr h) = inr (h .0, inr (h .1))
+pub before-upto-with : (a : Timestamp) (p : Path) (b : Timestamp) (q : Path) → Before-with a p b q → Upto-with a p b q
+before-upto-with a p b q (inl h) = inl h
+before-upto-with a p b q (inr h) = inr (h .0, inr (h .1))
 
-pub le-refl : (a : Timestamp) (p : Path) → Le a p a p
-le-refl a p = inr (refl, inl refl)
+pub upto-refl-with : (a : Timestamp) (p : Path) → Upto-with a p a p
+upto-refl-with a p = inr (refl, inl refl)
 
-pub le-trans : (a : Timestamp) (p : Path) (b : Timestamp) (q : Path) (c : Timestamp) (r : Path) → Le a p b q → Le b q c r → Le a p c r
-le-trans a p b q c r (inl h) (inl k) = inl (mlt-le-trans a b c h (mlt-le b c k))
-le-trans a p b q c r (inl h) (inr k) = inl (subst (λ x. Mlt a x) (k .0) h)
-le-trans a p b q c r (inr h) (inl k) = inl (subst (λ x. Mlt x c) (sym (h .0)) k)
-le-trans a p b q c r (inr h) (inr k) = inr (h .0 ∙ k .0, go (h .1) (k .1))
+pub upto-trans-with : (a : Timestamp) (p : Path) (b : Timestamp) (q : Path) (c : Timestamp) (r : Path) → Upto-with a p b q → Upto-with b q c r → Upto-with a p c r
+upto-trans-with a p b q c r (inl h) (inl k) = inl (before-upto-trans a b c h (before-upto b c k))
+upto-trans-with a p b q c r (inl h) (inr k) = inl (subst (λ x. Before a x) (k .0) h)
+upto-trans-with a p b q c r (inr h) (inl k) = inl (subst (λ x. Before x c) (sym (h .0)) k)
+upto-trans-with a p b q c r (inr h) (inr k) = inr (h .0 ∙ k .0, go (h .1) (k .1))
   where
     go : (p ≡ q) ⊎ (less-bytes p q ≡ true) → (q ≡ r) ⊎ (less-bytes q r ≡ true) → (p ≡ r) ⊎ (less-bytes p r ≡ true)
     go (inl i) (inl j) = inl (i ∙ j)
@@ -129,42 +129,42 @@ le-trans a p b q c r (inr h) (inr k) = inr (h .0 ∙ k .0, go (h .1) (k .1))
     go (inr i) (inl j) = inr (rw (← j) i)
     go (inr i) (inr j) = inr (less-trans p q r i j)
 
-pub lt-not : (a : Timestamp) (p : Path) (b : Timestamp) (q : Path) → Lt a p b q → Le b q a p → ⊥
-lt-not a p b q (inl h) (inl k) = mlt-not a b h (mlt-le b a k)
-lt-not a p b q (inl h) (inr k) = mlt-not a b h (rw (k .0) (mle-refl a))
-lt-not a p b q (inr h) (inl k) = mlt-not b a k (rw (h .0) (mle-refl b))
-lt-not a p b q (inr h) (inr k) = go (k .1)
+pub before-not-with : (a : Timestamp) (p : Path) (b : Timestamp) (q : Path) → Before-with a p b q → Upto-with b q a p → ⊥
+before-not-with a p b q (inl h) (inl k) = before-not a b h (before-upto b a k)
+before-not-with a p b q (inl h) (inr k) = before-not a b h (rw (k .0) (upto-refl a))
+before-not-with a p b q (inr h) (inl k) = before-not b a k (rw (h .0) (upto-refl b))
+before-not-with a p b q (inr h) (inr k) = go (k .1)
   where
     go : (q ≡ p) ⊎ (less-bytes q p ≡ true) → ⊥
     go (inl i) = less-self p (rw i at (h .1))
     go (inr i) = less-self p (less-trans p q p (h .1) i)
 
-pub le-moment : (a : Timestamp) (p : Path) (b : Timestamp) (q : Path) → Le a p b q → Mle a b
-le-moment a p b q (inl h) = mlt-le a b h
-le-moment a p b q (inr h) = rw (h .0) (mle-refl b)
+pub upto-clock : (a : Timestamp) (p : Path) (b : Timestamp) (q : Path) → Upto-with a p b q → Upto a b
+upto-clock a p b q (inl h) = before-upto a b h
+upto-clock a p b q (inr h) = rw (h .0) (upto-refl b)
 
-pub before-with-lt : (a : Timestamp) (p : Path) (b : Timestamp) (q : Path) → earlier-with a p b q ≡ true → Lt a p b q
-before-with-lt a p b q e = go (earlier a b) refl (or-cases (earlier a b) (not (earlier b a) && less-bytes p q) e)
+pub earlier-before-with : (a : Timestamp) (p : Path) (b : Timestamp) (q : Path) → earlier-with a p b q ≡ true → Before-with a p b q
+earlier-before-with a p b q e = go (earlier a b) refl (or-cases (earlier a b) (not (earlier b a) && less-bytes p q) e)
   where
-    go : (x : Bool) → earlier a b ≡ x → (earlier a b ≡ true) ⊎ ((not (earlier b a) && less-bytes p q) ≡ true) → Lt a p b q
-    go true i k = inl (before-true a b i)
+    go : (x : Bool) → earlier a b ≡ x → (earlier a b ≡ true) ⊎ ((not (earlier b a) && less-bytes p q) ≡ true) → Before-with a p b q
+    go true i k = inl (earlier-before a b i)
     go false i (inl k) = absurd (both-ways (earlier a b) i k)
     go false i (inr k) =
         let h = and-parts (not (earlier b a)) (less-bytes p q) k in
-        inr (mle-both a b (before-false b a (not-true (earlier b a) (h .0))) (before-false a b i), h .1)
+        inr (upto-both a b (earlier-not b a (not-true (earlier b a) (h .0))) (earlier-not a b i), h .1)
 
 pub record Came (c d : Verifier) (x : Element) : Type 0 where
   pub open-still : c .done ≤ x .timestamp .epoch
-  pub past : Mlt (x .timestamp) (d .clock)
+  pub past : Before (x .timestamp) (d .clock)
 
 pub record Put (t : ℕ) (c d : Verifier) (x : Element) : Type 0 where
   pub at-clock : x .timestamp ≡ d .clock
   pub at-last : path-of (x .rec) ≡ d .last-evicted
   pub by-it : x .verifier ≡ t
-  pub goes-past : Lt (c .clock) (c .last-evicted) (d .clock) (d .last-evicted)
+  pub goes-past : Before-with (c .clock) (c .last-evicted) (d .clock) (d .last-evicted)
 
 pub record Went (t : ℕ) (c d : Verifier) (adds evicts : List Element) : Type 0 where
-  pub onward : Le (c .clock) (c .last-evicted) (d .clock) (d .last-evicted)
+  pub onward : Upto-with (c .clock) (c .last-evicted) (d .clock) (d .last-evicted)
   pub done-on : c .done ≤ d .done
   pub done-in : c .done ≤ c .clock .epoch → d .done ≤ d .clock .epoch
   pub came : All (Came c d) adds
@@ -172,22 +172,22 @@ pub record Went (t : ℕ) (c d : Verifier) (adds evicts : List Element) : Type 0
   pub few : length evicts ≤ 1
   pub few-in : length adds ≤ 1
 
-abbrev pub Goes-well : ℕ → Verifier → Step → Type 0
-Goes-well t c fails = Unit
-Goes-well t c (goes d adds evicts nh) = Went t c d adds evicts
+abbrev pub Went-well : ℕ → Verifier → Step → Type 0
+Went-well t c fails = Unit
+Went-well t c (goes d adds evicts nh) = Went t c d adds evicts
 
 -- only the store changes
 still : (t : ℕ) (v : Verifier) (xs : List Stored) → Went t v (with-store v xs) [] []
-still t v xs = record { onward = le-refl (v .clock) (v .last-evicted); done-on = omega arith; done-in = λ h. h; came = tt; put = tt; few = omega arith; few-in = omega arith }
+still t v xs = record { onward = upto-refl-with (v .clock) (v .last-evicted); done-on = omega arith; done-in = λ h. h; came = tt; put = tt; few = omega arith; few-in = omega arith }
 
 -- an evict by Blum, from the store as it is or with a pointer written
 well-evicts : (t : ℕ) (v : Verifier) (xs : List Stored) (p : Path) (m : Timestamp) (by : Bool) (x : Stored) → Found v p x → Evictable (with-store v xs) p m by x →
     Went t v (evicted-at (with-store v xs) p m) [] (element x m t ∷ [])
 well-evicts t v xs p m by x f k =
-    let l : Lt (v .clock) (v .last-evicted) m p = before-with-lt (v .clock) (v .last-evicted) m p (k .later) in
-    let n = le-moment (v .clock) (v .last-evicted) m p (lt-le (v .clock) (v .last-evicted) m p l) in
+    let l : Before-with (v .clock) (v .last-evicted) m p = earlier-before-with (v .clock) (v .last-evicted) m p (k .later) in
+    let n = upto-clock (v .clock) (v .last-evicted) m p (before-upto-with (v .clock) (v .last-evicted) m p l) in
     record {
-      onward = lt-le (v .clock) (v .last-evicted) m p l;
+      onward = before-upto-with (v .clock) (v .last-evicted) m p l;
       done-on = omega arith;
       done-in = λ h. let w = n .0 in omega arith;
       came = tt;
@@ -206,31 +206,31 @@ well-adds-blum t v r m j h = go (earlier (v .clock) (just-after m)) refl
     not-self = go (earlier (v .clock) (v .clock)) refl
       where
         go : (b : Bool) → earlier (v .clock) (v .clock) ≡ b → b ≡ false
-        go true e = absurd (mlt-not (v .clock) (v .clock) (before-true (v .clock) (v .clock) e) (mle-refl (v .clock)))
+        go true e = absurd (before-not (v .clock) (v .clock) (earlier-before (v .clock) (v .clock) e) (upto-refl (v .clock)))
         go false e = refl
 
-    made : Le (v .clock) (v .last-evicted) n (pick (earlier (v .clock) n) [] (v .last-evicted)) → Mlt m n →
+    made : Upto-with (v .clock) (v .last-evicted) n (pick (earlier (v .clock) n) [] (v .last-evicted)) → Before m n →
         Went t v (added-by-blum v r m) (record { rec = r; timestamp = m; verifier = j } ∷ []) []
     made l p =
-        let w = le-moment (v .clock) (v .last-evicted) n (pick (earlier (v .clock) n) [] (v .last-evicted)) l .0 in
+        let w = upto-clock (v .clock) (v .last-evicted) n (pick (earlier (v .clock) n) [] (v .last-evicted)) l .0 in
         record { onward = l; done-on = omega arith; done-in = λ k. omega arith; came = (record { open-still = h; past = p }, tt); put = tt; few = omega arith; few-in = omega arith }
 
     go : (b : Bool) → earlier (v .clock) (just-after m) ≡ b → Went t v (added-by-blum v r m) (record { rec = r; timestamp = m; verifier = j } ∷ []) []
-    go true e = made (inl (subst (λ x. Mlt (v .clock) x) (sym is) (before-true (v .clock) (just-after m) e))) (subst (λ x. Mlt m x) (sym is) (omega arith))
+    go true e = made (inl (subst (λ x. Before (v .clock) x) (sym is) (earlier-before (v .clock) (just-after m) e))) (subst (λ x. Before m x) (sym is) (omega arith))
       where
         is : n ≡ just-after m
         is = picks (earlier (v .clock) (just-after m)) (just-after m) (v .clock) e
     go false e =
-        let k : Mle (just-after m) (v .clock) = before-false (v .clock) (just-after m) e in
+        let k : Upto (just-after m) (v .clock) = earlier-not (v .clock) (just-after m) e in
         made (inr (sym is, inl (sym (picks-not (earlier (v .clock) n) [] (v .last-evicted) (ap (earlier (v .clock)) is ∙ not-self)))))
-        (subst (λ x. Mlt m x) (sym is) (mlt-le-trans m (just-after m) (v .clock) (omega arith) k))
+        (subst (λ x. Before m x) (sym is) (before-upto-trans m (just-after m) (v .clock) (omega arith) k))
       where
         is : n ≡ v .clock
         is = picks-not (earlier (v .clock) (just-after m)) (just-after m) (v .clock) e
 
-pub well : (t : ℕ) (v : Verifier) (e : Entry) → Goes-well t v (verifier-step t v e)
+pub well : (t : ℕ) (v : Verifier) (e : Entry) → Went-well t v (verifier-step t v e)
 well t v =
-    by-ways t v (λ e. Goes-well t v)
+    by-ways t v (λ e. Went-well t v)
     (record {
       wrong = λ e. tt;
       new-child = λ r q y a g e f. still t v _;
@@ -241,7 +241,7 @@ well t v =
       evicts-blum = λ p m x f k. well-evicts t v (v .store) p m false x f k;
       evicts-blum-merkle = λ p q m x y h f a e k. well-evicts t v (marked-blum v p q y h .store) p m true x f k;
       begins-epoch = record { onward = inl (omega arith); done-on = omega arith; done-in = λ h. omega arith; came = tt; put = tt; few = omega arith; few-in = omega arith };
-      ends-epoch = λ h. record { onward = le-refl (v .clock) (v .last-evicted); done-on = omega arith; done-in = λ k. omega arith; came = tt; put = tt; few = omega arith; few-in = omega arith };
+      ends-epoch = λ h. record { onward = upto-refl-with (v .clock) (v .last-evicted); done-on = omega arith; done-in = λ k. omega arith; came = tt; put = tt; few = omega arith; few-in = omega arith };
       gets = λ k w x f e. still t v (v .store);
       sets = λ k w x u f e. still t v _;
     })

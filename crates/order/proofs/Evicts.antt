@@ -1,23 +1,23 @@
 -- The evicts keep the invariant: by Merkle, by Blum, and by Blum what was added by Merkle.
 use mathlib.Core.Path.{_≡_, refl, sym, ap, ap₂, subst, _∙_}
 use mathlib.Core.Logic.{_⊎_, inl, inr}
-use mathlib.Core.Bool.{Bool, true, false, _||_}
+use mathlib.Core.Bool.{Bool, true, false}
 use mathlib.Core.List.{List, [], _∷_}
 use Prim.Native.Nat.{ℕ, _<_}
 use native.Mathlib.Omega.{arith}
 use lib.Dec.{eqb}
 use Rattle.std.proofs.shelf.Tests.{ne-eqb, or-parts}
-use Rattle.model.specs.Records.{pick, Path, side, Pointer, absent, present, Children, with-child, Record, data-record, node, path-of, is-data, children-of, merkle-bytes, merkle-hash}
-use Rattle.model.specs.Verifier.{Timestamp, Entry, evict-merkle, evict-blum, evict-blum-merkle, Stored, Verifier, find, without, updated, with-pointer, found-by-merkle, points-at-merkle, has-merkle-child, Element, goes}
+use Rattle.model.specs.Records.{pick, Path, side, Pointer, present, Children, with-child, Record, data-record, node, path-of, is-data, children-of, merkle-bytes, merkle-hash}
+use Rattle.model.specs.Verifier.{Timestamp, evict-merkle, evict-blum, evict-blum-merkle, Stored, Verifier, find, without, updated, found-by-merkle, points-at-merkle, has-merkle-child, Element, goes}
 use Rattle.model.specs.Monitor.{Call, modulus, entry-code}
-use Rattle.model.specs.Order.{get-right, Member}
+use Rattle.model.specs.Order.{get-right}
 use Rattle.order.proofs.Paths.{same-or, left-of}
 use Rattle.order.proofs.Lists.{picks-not}
-use Rattle.order.proofs.Stores.{renewed, find-changed-at, find-changed-off}
+use Rattle.order.proofs.Stores.{renewed, find-updated-at, find-updated-off}
 use Rattle.order.proofs.Bytes.{hash-small, Fit-pointer, Fit-record}
 use Rattle.order.proofs.Shape.{upd, upd-off}
-use Rattle.order.proofs.World.{Where, at, away-merkle, away-blum, Spot, spot, World, Kind, kind-at, kind, loc-at, Ptr, Tree, half, with-half, side-of, not-self, on-half, with-side-half, ptr-more}
-use Rattle.order.proofs.Rest.{seen-by, Rest, rest-changed, rest-go}
+use Rattle.order.proofs.World.{Where, at, away-merkle, away-blum, Spot, spot, World, Kind, kind-at, kind, loc-at, Ptr, Tree, half, with-half, side-of, not-self, child-on-half, with-child-half, ptr-more}
+use Rattle.order.proofs.Placed.{seen-by, Placed, placed-updated, placed-evicted}
 use Rattle.order.proofs.Moves.{move, move-under, no-child}
 use Rattle.order.proofs.Ways.{Found, Above, pointer-to, Evictable, evicted-by-merkle, marked-blum, evicted-at, element}
 use Rattle.order.proofs.Invariant.{Inv, Then, Keeps, no-elements, never, fit-half, fit-halves, setn, setn-at, found-here, found-above}
@@ -31,8 +31,8 @@ found-updated p r hs = go (same-or p (path-of r))
     same (x ∷ xs) = refl
 
     go : (p ≡ path-of r) ⊎ (p ≡ path-of r → ⊥) → found-by-merkle (find p (updated r hs)) ≡ found-by-merkle (find p hs)
-    go (inl i) = rw (i, find-changed-at r hs) (same (find (path-of r) hs))
-    go (inr n) = rw (find-changed-off p r hs n)
+    go (inl i) = rw (i, find-updated-at r hs) (same (find (path-of r) hs))
+    go (inr n) = rw (find-updated-off p r hs n)
 
 -- nothing that a record points at is in the store by Merkle
 abbrev Childless : List Stored → Record → Type 0
@@ -70,7 +70,7 @@ module _ (hs : ℕ → List Stored) (H : List Record) (bs : List Call) (P : Elem
       record {
         world = upd W p (spot r (away-blum m t));
         tree = move H H W p r (at t false) (away-blum m t) (I .tree) isp (λ l h b k x. x) (λ d y h b n e k. leaves p r false isp nb d y h b e k) (λ z d h b e k. k);
-        rest = rest-go hs gs bs P W t (I .rest) others Q p r false (away-blum m t) isp (λ u. refl) (g ∙ ap (without p) isc) pends;
+        rest = placed-evicted hs gs bs P W t (I .rest) others Q p r false (away-blum m t) isp (λ u. refl) (g ∙ ap (without p) isc) pends;
       }
 
   -- what leaves, with the node above it that points at it
@@ -120,15 +120,15 @@ module _ (hs : ℕ → List Stored) (H : List Record) (bs : List Call) (P : Elem
             (λ d y x z n e k. rw nothing (more [] x z (kind (W y)) (leaves p r b isp nb d y x z e k)))
             q t u (left-of p q) bt g h a i isq points new
 
-        middle : Rest ms bs P (upd W q s)
+        middle : Placed ms bs P (upd W q s)
         middle =
-            rest-changed hs ms bs P W t (I .rest) off-list bs q (node q u) (node q u′) bt isq refl (setn-at hs t l)
+            placed-updated hs ms bs P W t (I .rest) off-list bs q (node q u) (node q u′) bt isq refl (setn-at hs t l)
             (fit-half q u (left-of p q) (present p h i) (fit-q .0) fit-u (fit-old .0, small)) (λ k j. tt) (λ k j. refl)
 
-        rests : Rest gs bs Q (upd (upd W q s) p (spot r v))
+        rests : Placed gs bs Q (upd (upd W q s) p (spot r v))
         rests =
-            rest-go ms gs bs P (upd W q s) t middle (λ x n. others x n ∙ sym (off-list x n)) Q p r b v (upd-off W q s p p≢q ∙ isp) nowhere
-            (isg ∙ ap (without p) (ap₂ (λ x y. updated (node q x) y) (with-side-half u (side p q) (present p h i)) isc ∙ sym (setn-at hs t l))) pends
+            placed-evicted ms gs bs P (upd W q s) t middle (λ x n. others x n ∙ sym (off-list x n)) Q p r b v (upd-off W q s p p≢q ∙ isp) nowhere
+            (isg ∙ ap (without p) (ap₂ (λ x y. updated (node q x) y) (with-child-half u (side p q) (present p h i)) isc ∙ sym (setn-at hs t l))) pends
 
   -- an element that is evicted now, or was and still is away
   evicted-now : (p : Path) (r : Record) (b : Bool) (m : Timestamp) → W p ≡ spot r (at t b) → (e : Element) → Then P [] (record { rec = r; timestamp = m; verifier = t } ∷ []) e →
@@ -138,7 +138,7 @@ module _ (hs : ℕ → List Stored) (H : List Record) (bs : List Call) (P : Elem
   evicted-now p r b m isp e (inr k) = inl (k .0, still p r b isp e (k .0))
 
   half-is : (p q : Path) (y : Stored) (s : Pointer) → pointer-to p q y ≡ s → half (children-of (y .rec)) (left-of p q) ≡ s
-  half-is p q y s e = sym (on-half (children-of (y .rec)) (side p q)) ∙ e
+  half-is p q y s e = sym (child-on-half (children-of (y .rec)) (side p q)) ∙ e
 
   childless-t : (r : Record) → has-merkle-child (c .store) r ≡ false → Childless (hs t) r
   childless-t r e = subst (λ z. Childless z r) isc (childless (c .store) r e)

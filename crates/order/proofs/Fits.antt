@@ -1,22 +1,22 @@
 -- Along a replay, all that is in a store, added or evicted can be told by its bytes.
-use mathlib.Core.Path.{_≡_, refl, sym, ap, subst, _∙_}
+use mathlib.Core.Path.{_≡_, refl, sym, subst, _∙_}
 use mathlib.Core.Bool.{Bool, true, false, _&&_}
-use mathlib.Core.List.{List, [], _∷_, _++_}
-use Prim.Native.Nat.{ℕ, suc, _+_, _^_, _≤_, _<_}
+use mathlib.Core.List.{List, [], _∷_}
+use Prim.Native.Nat.{ℕ, suc, _≤_}
 use native.Mathlib.Omega.{arith}
 use lib.Dec.{ltb, leb, eqb}
 use lib.ListN.{length}
 use Rattle.std.proofs.shelf.Tests.{and-parts, ltb-true, leb-true}
 use Rattle.std.specs.declared.option.Option.the-variants.{Some}
-use Rattle.model.specs.Records.{pick, same-bytes, Path, side, Pointer, absent, present, Children, child-on, with-child, no-children, Record, data-record, node, path-of, children-of, merkle-bytes, merkle-hash}
-use Rattle.model.specs.Verifier.{Timestamp, Entry, set, Stored, Verifier, find, without, updated, with-pointer, Element, Step, fails, goes, verifier-step}
-use Rattle.model.specs.Monitor.{Limits, are-bits, good-path, good-node-path, good-record, good-key, good-value, good-timestamp, good-entry, fits-32}
+use Rattle.model.specs.Records.{pick, same-bytes, Path, side, Pointer, present, child-on, with-child, no-children, Record, data-record, node, path-of, children-of, merkle-bytes}
+use Rattle.model.specs.Verifier.{Timestamp, Entry, set, Stored, Verifier, find, without, updated, with-pointer, Step, fails, goes, verifier-step}
+use Rattle.model.specs.Monitor.{Limits, are-bits, good-path, good-node-path, good-record, good-timestamp, good-entry, fits-32}
 use Rattle.order.proofs.Lists.{picks, picks-not, All, all-append}
 use Rattle.order.proofs.Bytes.{hash-small, Fit-pointer, Fit-record, path-fits, Fit-element}
-use Rattle.order.proofs.World.{half, with-half, with-side-half}
-use Rattle.order.proofs.Ways.{Found, Above, pointer-to, node-over, by-ways}
+use Rattle.order.proofs.World.{half, with-half, with-child-half}
+use Rattle.order.proofs.Ways.{Found, Above, by-ways}
 use Rattle.order.proofs.Replay.{Replayed, verifier-after, adds-of, evicts-of, Replay}
-use Rattle.order.proofs.Log.{fit-record, fit-entry, Looked-at, All-looked-at}
+use Rattle.order.proofs.Log.{fit-record, fit-entry, All-looked-at}
 
 abbrev pub Fit-store : List Stored → Type 0
 Fit-store hs = All (λ x. Fit-record (x .rec)) hs
@@ -57,7 +57,7 @@ halves-fit (node p u) f false = f .2
 
 -- a node with a child pointer written
 with-fits : (q : Path) (a : Record) (d : ℕ) (s : Pointer) → length q ≤ 65535 → Fit-record a → Fit-pointer s → Fit-record (node q (with-child (children-of a) d s))
-with-fits q a d s l f g = rw (with-side-half (children-of a) d s) (go (eqb d 0))
+with-fits q a d s l f g = rw (with-child-half (children-of a) d s) (go (eqb d 0))
   where
     go : (b : Bool) → Fit-record (node q (with-half (children-of a) b s))
     go true = (l, g, halves-fit a f false)

@@ -1,13 +1,13 @@
 -- The world's invariant, and what it is for a step to keep it: or two records or keys that were hashed collide.
-use mathlib.Core.Path.{_≡_, refl, sym, ap, ap₂, subst, _∙_}
+use mathlib.Core.Path.{_≡_, refl, sym, ap, _∙_}
 use mathlib.Core.Logic.{_⊎_, inl, inr}
 use mathlib.Core.Bool.{Bool, true, false}
 use mathlib.Core.List.{List, [], _∷_, _++_}
-use Prim.Native.Nat.{ℕ, _≤_, _<_}
+use Prim.Native.Nat.{ℕ, _≤_}
 use native.Mathlib.Omega.{arith}
 use lib.Dec.{eqb}
 use lib.ListN.{length}
-use Rattle.std.proofs.shelf.Tests.{true≢false, eqb-true, eq-eqb, cases-eq}
+use Rattle.std.proofs.shelf.Tests.{true≢false, eqb-true, eq-eqb}
 use Rattle.model.specs.Records.{pick, Path, node, Pointer, absent, present, Children, Record, data-record, path-of, is-data, children-of}
 use Rattle.model.specs.Verifier.{Entry, add-merkle, add-blum, evict-merkle, evict-blum, evict-blum-merkle, next-epoch, verify-epoch, get, set, Stored, Verifier, find, goes, Element, Step, fails}
 use Rattle.model.specs.Monitor.{Call, called}
@@ -15,16 +15,15 @@ use Rattle.model.specs.Order.{get-right, Member, Values-collide, Keys-collide}
 use Rattle.order.proofs.Lists.{picks}
 use Rattle.order.proofs.Stores.{find-path}
 use Rattle.order.proofs.Bytes.{Fit-pointer, Fit-record}
-use Rattle.order.proofs.Shape.{in-use}
-use Rattle.order.proofs.World.{at, away-merkle, away-blum, Spot, unused, spot, World, Tree, form, half, with-half}
-use Rattle.order.proofs.Rest.{seen-by, Rest}
+use Rattle.order.proofs.World.{at, away-merkle, away-blum, Spot, unused, spot, World, Tree, half, with-half}
+use Rattle.order.proofs.Placed.{seen-by, Placed}
 use Rattle.order.proofs.Ways.{Found, Above}
 
 -- stores by verifier, records hashed, calls, and which elements are away by Blum: there is a world that fits them
 pub record Inv (hs : ℕ → List Stored) (H : List Record) (cs : List Call) (P : Element → Type 0) : Type 0 where
   pub world : World
   pub tree : Tree H world
-  pub rest : Rest hs cs P world
+  pub rest : Placed hs cs P world
 
 abbrev pub Collide : List Record → Type 0
 Collide H = Values-collide H ⊎ Keys-collide H
@@ -64,15 +63,15 @@ Keeps hs H cs P t e (goes v adds evicts hashes) =
     Fit-entry e → (gs : ℕ → List Stored) → gs t ≡ v .store → ((u : ℕ) → (u ≡ t → ⊥) → gs u ≡ hs u) → Matched P adds →
     Collide (hashes ++ H) ⊎ (Inv gs (hashes ++ H) (called t v e cs) (Then P adds evicts) × (get-right e cs ≡ true))
 
-pub rest-less : (hs : ℕ → List Stored) (cs : List Call) (P Q : Element → Type 0) (W : World) → ((e : Element) → Q e → P e) → Rest hs cs P W → Rest hs cs Q W
-rest-less hs cs P Q W l R = record { link = R .link; once = R .once; fit = R .fit; value = R .value; pend = λ e q. R .pend e (l e q) }
+pub placed-less : (hs : ℕ → List Stored) (cs : List Call) (P Q : Element → Type 0) (W : World) → ((e : Element) → Q e → P e) → Placed hs cs P W → Placed hs cs Q W
+placed-less hs cs P Q W l R = record { link = R .link; once = R .once; fit = R .fit; value = R .value; pend = λ e q. R .pend e (l e q) }
 
 pub no-elements : (P : Element → Type 0) (e : Element) → Then P [] [] e → P e
 no-elements P e (inl b) = absurd b
 no-elements P e (inr p) = p .0
 
 pub keep : (hs : ℕ → List Stored) (H : List Record) (cs : List Call) (P : Element → Type 0) → Inv hs H cs P → Inv hs H cs (Then P [] [])
-keep hs H cs P J = record { world = J .world; tree = J .tree; rest = rest-less hs cs P (Then P [] []) (J .world) (no-elements P) (J .rest) }
+keep hs H cs P J = record { world = J .world; tree = J .tree; rest = placed-less hs cs P (Then P [] []) (J .world) (no-elements P) (J .rest) }
 
 -- ---- small facts
 

@@ -2,11 +2,11 @@ pub mod Lists
 pub mod Paths
 pub mod Stores
 pub mod Bytes
+pub mod Ways
 pub mod Shape
 pub mod World
-pub mod Rest
+pub mod Placed
 pub mod Moves
-pub mod Ways
 pub mod Invariant
 pub mod AddMerkle
 pub mod Evicts
@@ -18,6 +18,6 @@ pub mod Fits
 pub mod Sort
 pub mod Matched
 pub mod Sums
-pub mod Tree
 pub mod Certified
+pub mod Tree
 pub mod Statements

@@ -1,18 +1,18 @@
 -- A log's right entries are a replay; and how an event is answered, case by case.
-use mathlib.Core.Path.{_≡_, refl, sym, ap, ap₂, subst, _∙_}
+use mathlib.Core.Path.{_≡_, refl, sym, ap, _∙_}
 use mathlib.Core.Logic.{_⊎_, inl, inr}
-use mathlib.Core.Bool.{Bool, true, false, not, _&&_}
+use mathlib.Core.Bool.{Bool, true, false, _&&_}
 use mathlib.Core.List.{List, [], _∷_, _++_}
 use Prim.Native.Nat.{ℕ, zero, suc, _+_, _≤_, _<_}
 use native.Mathlib.Omega.{arith}
 use native.Mathlib.Nat.{add-zero, zero-add}
 use lib.Dec.{ltb, leb, eqb}
 use lib.ListN.{length}
-use Rattle.std.proofs.shelf.Tests.{false≢true, and-parts, ltb-true, leb-true, eq-eqb, ne-eqb, eqb-true, eqb-false, cases-eq}
+use Rattle.std.proofs.shelf.Tests.{and-parts, ltb-true, leb-true, eq-eqb, ne-eqb, eqb-true, eqb-false, cases-eq}
 use Rattle.std.specs.declared.option.Option.the-variants.{None, Some}
-use Rattle.model.specs.Records.{pick, Path, Pointer, absent, present, Value, Record, data-record, node}
-use Rattle.model.specs.Verifier.{Timestamp, Entry, add-merkle, add-blum, evict-merkle, evict-blum, evict-blum-merkle, next-epoch, verify-epoch, get, set, Stored, Verifier, Element, Step, fails, goes, verifier-step, new-verifier, absent-verifier}
-use Rattle.model.specs.Monitor.{Limits, Event, logged, malformed, Answer, refused, Call, State, new-verifiers, new-state, verifier-at, with-verifier, modulus, entry-code, are-bits, good-path, good-node-path, good-pointer, good-key, good-value, good-record, good-entry, fits-32, epoch-named, in-range, store-full, too-far-ahead, refusal, place-of, Response, stop, stopping, called, accepted, right-answer, sums-differ, by-step, performed, respond, after, state}
+use Rattle.model.specs.Records.{pick, Pointer, absent, present, Value, Record, data-record, node}
+use Rattle.model.specs.Verifier.{Entry, add-merkle, add-blum, evict-merkle, evict-blum, evict-blum-merkle, next-epoch, verify-epoch, get, set, Verifier, Element, Step, fails, goes, verifier-step, new-verifier, absent-verifier}
+use Rattle.model.specs.Monitor.{Limits, Event, logged, malformed, refused, State, new-verifiers, verifier-at, with-verifier, modulus, entry-code, are-bits, good-path, good-node-path, good-pointer, good-key, good-value, good-record, good-entry, fits-32, epoch-named, in-range, store-full, too-far-ahead, refusal, place-of, Response, stop, stopping, called, accepted, right-answer, sums-differ, by-step, performed, respond, after, state}
 use Rattle.order.proofs.Lists.{picks, picks-not}
 use Rattle.order.proofs.Bytes.{Fit-pointer, Fit-value, Fit-record}
 use Rattle.order.proofs.Invariant.{Fit-entry}

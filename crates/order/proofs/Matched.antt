@@ -1,9 +1,9 @@
 -- From equal counts to matched: in the order of clocks, what is added by Blum was evicted before, and not added before.
-use mathlib.Core.Path.{_≡_, refl, sym, ap, ap₂, subst, _∙_}
+use mathlib.Core.Path.{_≡_, refl, sym, ap, subst, _∙_}
 use mathlib.Core.Logic.{_⊎_, inl, inr}
 use mathlib.Core.Bool.{Bool, true, false, _&&_}
 use mathlib.Core.List.{List, [], _∷_, _++_}
-use Prim.Native.Nat.{ℕ, zero, suc, _+_, _≤_, _<_}
+use Prim.Native.Nat.{ℕ, _+_, _≤_, _<_}
 use native.Mathlib.Omega.{arith}
 use lib.Dec.{ltb, eqb}
 use lib.ListN.{length}
@@ -12,95 +12,95 @@ use Rattle.model.specs.Records.{pick, same-bytes, path-of}
 use Rattle.model.specs.Verifier.{earlier, Element}
 use Rattle.model.specs.Monitor.{Limits, element-bytes}
 use Rattle.model.specs.Order.{times-in, Member}
-use Rattle.order.proofs.Lists.{picks, picks-not, in-left, in-right, All, all-map, all-append, all-in}
+use Rattle.order.proofs.Lists.{picks, in-left, in-right, All, all-map, all-append, all-in}
 use Rattle.order.proofs.Paths.{same-is, same-refl}
 use Rattle.order.proofs.Bytes.{Fit-element, element-tells}
 use Rattle.order.proofs.Invariant.{Matched}
-use Rattle.order.proofs.Replay.{Replayed, verifier-after, adds-of, evicts-of, Step-of, From, from-gathered, to-gathered, Pending, Replay, All-matched}
+use Rattle.order.proofs.Replay.{Replayed, verifier-after, adds-of, evicts-of, From, from-gathered, to-gathered, Pending, Replay, All-matched}
 use Rattle.order.proofs.Log.{All-looked-at, after-at, after-off}
-use Rattle.order.proofs.Clocks.{Mle, Mlt, mlt-not, mle-refl, Le, le-trans, lt-not, Came, Put, Went}
+use Rattle.order.proofs.Clocks.{Upto, Before, before-not, upto-refl, Upto-with, upto-trans-with, before-not-with, Came, Put, Went}
 use Rattle.order.proofs.Fits.{Fit-replay, replay-fits}
 use Rattle.order.proofs.Sort.{clock-of, went, cut, insert, sorted, Down, sorted-down, in-cut, cut-in-all, in-sorted, sorted-in}
 
 -- how often an element is among others
-pub often-split : (x : Element) (xs ys : List Element) → times-in x (xs ++ ys) ≡ times-in x xs + times-in x ys
+pub times-split : (x : Element) (xs ys : List Element) → times-in x (xs ++ ys) ≡ times-in x xs + times-in x ys
 unfolding times-in
-often-split x [] ys = omega arith
-often-split x (y ∷ xs) ys = let h = often-split x xs ys in omega arith
+times-split x [] ys = omega arith
+times-split x (y ∷ xs) ys = let h = times-split x xs ys in omega arith
 
-pub often-in : (x : Element) (xs : List Element) → Member x xs → 1 ≤ times-in x xs
+pub times-member : (x : Element) (xs : List Element) → Member x xs → 1 ≤ times-in x xs
 unfolding times-in
-often-in x [] h = absurd h
-often-in x (y ∷ ys) (inl i) =
+times-member x [] h = absurd h
+times-member x (y ∷ ys) (inl i) =
     let k : (eqb (y .timestamp .epoch) (x .timestamp .epoch) && same-bytes (element-bytes x) (element-bytes y)) ≡ true =
     and-from (eqb (y .timestamp .epoch) (x .timestamp .epoch)) (same-bytes (element-bytes x) (element-bytes y)) (eq-eqb (y .timestamp .epoch) (x .timestamp .epoch) (ap (λ z. z .timestamp .epoch) (sym i)))
     (ap (λ z. same-bytes (element-bytes x) (element-bytes z)) (sym i) ∙ same-refl (element-bytes x)) in
     let l = picks {A = ℕ} (eqb (y .timestamp .epoch) (x .timestamp .epoch) && same-bytes (element-bytes x) (element-bytes y)) 1 0 k in
     omega arith
-often-in x (y ∷ ys) (inr h) = let k = often-in x ys h in omega arith
+times-member x (y ∷ ys) (inr h) = let k = times-member x ys h in omega arith
 
 pub record Like (x : Element) (xs : List Element) : Type 0 where
   pub which : Element
   pub there : Member which xs
   pub alike : element-bytes x ≡ element-bytes which
 
-pub often-some : (x : Element) (xs : List Element) → 1 ≤ times-in x xs → Like x xs
+pub times-some : (x : Element) (xs : List Element) → 1 ≤ times-in x xs → Like x xs
 unfolding times-in pick
-often-some x [] h = absurd (omega arith)
-often-some x (y ∷ ys) h = go (eqb (y .timestamp .epoch) (x .timestamp .epoch) && same-bytes (element-bytes x) (element-bytes y)) refl h (often-some x ys)
+times-some x [] h = absurd (omega arith)
+times-some x (y ∷ ys) h = go (eqb (y .timestamp .epoch) (x .timestamp .epoch) && same-bytes (element-bytes x) (element-bytes y)) refl h (times-some x ys)
   where
     go : (b : Bool) → (eqb (y .timestamp .epoch) (x .timestamp .epoch) && same-bytes (element-bytes x) (element-bytes y)) ≡ b → 1 ≤ pick b 1 0 + times-in x ys → (1 ≤ times-in x ys → Like x ys) → Like x (y ∷ ys)
     go true i k ih = record { which = y; there = inl refl; alike = same-is (element-bytes x) (element-bytes y) (and-parts (eqb (y .timestamp .epoch) (x .timestamp .epoch)) (same-bytes (element-bytes x) (element-bytes y)) i .1) }
     go false i k ih = let l : Like x ys = ih (omega arith) in record { which = l .which; there = inr (l .there); alike = l .alike }
 
-often-one : (x : Element) (xs : List Element) → length xs ≤ 1 → times-in x xs ≤ 1
+times-one : (x : Element) (xs : List Element) → length xs ≤ 1 → times-in x xs ≤ 1
 unfolding times-in pick
-often-one x [] h = omega arith
-often-one x (y ∷ []) h = go (eqb (y .timestamp .epoch) (x .timestamp .epoch) && same-bytes (element-bytes x) (element-bytes y))
+times-one x [] h = omega arith
+times-one x (y ∷ []) h = go (eqb (y .timestamp .epoch) (x .timestamp .epoch) && same-bytes (element-bytes x) (element-bytes y))
   where
     go : (b : Bool) → pick b 1 0 + 0 ≤ 1
     go true = omega arith
     go false = omega arith
-often-one x (y ∷ (z ∷ zs)) h = absurd (omega arith)
+times-one x (y ∷ (z ∷ zs)) h = absurd (omega arith)
 
-pub often-insert : (x : Element) (d : Replayed) (os : List Replayed) → times-in x (adds-of (insert d os)) ≡ times-in x (adds-of (d ∷ os))
+pub times-insert : (x : Element) (d : Replayed) (os : List Replayed) → times-in x (adds-of (insert d os)) ≡ times-in x (adds-of (d ∷ os))
 unfolding pick
-often-insert x d [] = refl
-often-insert x d (y ∷ ys) = go (earlier (clock-of d) (clock-of y)) (often-insert x d ys)
+times-insert x d [] = refl
+times-insert x d (y ∷ ys) = go (earlier (clock-of d) (clock-of y)) (times-insert x d ys)
   where
     go : (b : Bool) → times-in x (adds-of (insert d ys)) ≡ times-in x (adds-of (d ∷ ys)) → times-in x (adds-of (pick b (y ∷ insert d ys) (d ∷ (y ∷ ys)))) ≡ times-in x (adds-of (d ∷ (y ∷ ys)))
     go false ih = refl
     go true ih =
-        let a = often-split x (y .adds) (adds-of (insert d ys)) in
-        let b = often-split x (d .adds) (adds-of ys) in
-        let c = often-split x (d .adds) (y .adds ++ adds-of ys) in
-        let f = often-split x (y .adds) (adds-of ys) in
+        let a = times-split x (y .adds) (adds-of (insert d ys)) in
+        let b = times-split x (d .adds) (adds-of ys) in
+        let c = times-split x (d .adds) (y .adds ++ adds-of ys) in
+        let f = times-split x (y .adds) (adds-of ys) in
         omega arith
 
-pub often-sorted : (x : Element) (ds : List Replayed) → times-in x (adds-of (sorted ds)) ≡ times-in x (adds-of ds)
-often-sorted x [] = refl
-often-sorted x (d ∷ ds) =
-    let a = often-insert x d (sorted ds) in
-    let b = often-split x (d .adds) (adds-of (sorted ds)) in
-    let c = often-split x (d .adds) (adds-of ds) in
-    let f = often-sorted x ds in
+pub times-sorted : (x : Element) (ds : List Replayed) → times-in x (adds-of (sorted ds)) ≡ times-in x (adds-of ds)
+times-sorted x [] = refl
+times-sorted x (d ∷ ds) =
+    let a = times-insert x d (sorted ds) in
+    let b = times-split x (d .adds) (adds-of (sorted ds)) in
+    let c = times-split x (d .adds) (adds-of ds) in
+    let f = times-sorted x ds in
     omega arith
 
-pub often-cut : (x : Element) (n : ℕ) (ds : List Replayed) → times-in x (adds-of (cut n ds)) ≤ times-in x (adds-of ds)
+pub times-cut : (x : Element) (n : ℕ) (ds : List Replayed) → times-in x (adds-of (cut n ds)) ≤ times-in x (adds-of ds)
 unfolding pick
-often-cut x n [] = omega arith
-often-cut x n (d ∷ ds) = go (ltb (clock-of d .epoch) n) (often-cut x n ds)
+times-cut x n [] = omega arith
+times-cut x n (d ∷ ds) = go (ltb (clock-of d .epoch) n) (times-cut x n ds)
   where
     go : (b : Bool) → times-in x (adds-of (cut n ds)) ≤ times-in x (adds-of ds) → times-in x (adds-of (pick b (d ∷ cut n ds) (cut n ds))) ≤ times-in x (adds-of (d ∷ ds))
     go true ih =
-        let a = often-split x (d .adds) (adds-of (cut n ds)) in
-        let c = often-split x (d .adds) (adds-of ds) in
+        let a = times-split x (d .adds) (adds-of (cut n ds)) in
+        let c = times-split x (d .adds) (adds-of ds) in
         omega arith
-    go false ih = let c = often-split x (d .adds) (adds-of ds) in omega arith
+    go false ih = let c = times-split x (d .adds) (adds-of ds) in omega arith
 
 -- what was evicted is behind its verifier's clock, with the last evicted path
 abbrev Behind : List Replayed → Element → Type 0
-Behind ds x = Le (x .timestamp) (path-of (x .rec)) (verifier-after (x .verifier) ds .clock) (verifier-after (x .verifier) ds .last-evicted)
+Behind ds x = Upto-with (x .timestamp) (path-of (x .rec)) (verifier-after (x .verifier) ds .clock) (verifier-after (x .verifier) ds .last-evicted)
 
 pub evicts-behind : (ds : List Replayed) → Replay ds → All (Behind ds) (evicts-of ds)
 evicts-behind [] v = tt
@@ -114,7 +114,7 @@ evicts-behind (d ∷ ds) v =
 
     new : (x : Element) → Put (d .who) (verifier-after (d .who) ds) (d .now) x → Behind (d ∷ ds) x
     new x p =
-        subst (λ c. Le (x .timestamp) (path-of (x .rec)) (c .clock) (c .last-evicted)) (sym (after-at (x .verifier) d ds (p .by-it)))
+        subst (λ c. Upto-with (x .timestamp) (path-of (x .rec)) (c .clock) (c .last-evicted)) (sym (after-at (x .verifier) d ds (p .by-it)))
         (inr (p .at-clock, inl (p .at-last)))
 
     old : (x : Element) → Behind ds x → Behind (d ∷ ds) x
@@ -122,10 +122,10 @@ evicts-behind (d ∷ ds) v =
       where
         go : (x .verifier ≡ d .who) ⊎ (x .verifier ≡ d .who → ⊥) → Behind (d ∷ ds) x
         go (inl i) =
-            subst (λ c. Le (x .timestamp) (path-of (x .rec)) (c .clock) (c .last-evicted)) (sym (after-at (x .verifier) d ds i))
-            (le-trans (x .timestamp) (path-of (x .rec)) (verifier-after (d .who) ds .clock) (verifier-after (d .who) ds .last-evicted) (d .now .clock) (d .now .last-evicted)
-            (subst (λ t. Le (x .timestamp) (path-of (x .rec)) (verifier-after t ds .clock) (verifier-after t ds .last-evicted)) i b) (w .onward))
-        go (inr n) = subst (λ c. Le (x .timestamp) (path-of (x .rec)) (c .clock) (c .last-evicted)) (sym (after-off (x .verifier) d ds n)) b
+            subst (λ c. Upto-with (x .timestamp) (path-of (x .rec)) (c .clock) (c .last-evicted)) (sym (after-at (x .verifier) d ds i))
+            (upto-trans-with (x .timestamp) (path-of (x .rec)) (verifier-after (d .who) ds .clock) (verifier-after (d .who) ds .last-evicted) (d .now .clock) (d .now .last-evicted)
+            (subst (λ t. Upto-with (x .timestamp) (path-of (x .rec)) (verifier-after t ds .clock) (verifier-after t ds .last-evicted)) i b) (w .onward))
+        go (inr n) = subst (λ c. Upto-with (x .timestamp) (path-of (x .rec)) (c .clock) (c .last-evicted)) (sym (after-off (x .verifier) d ds n)) b
 
 -- so each is evicted once
 pub evicts-once : (l : Limits) (ds : List Replayed) → Replay ds → All-looked-at l ds → (x : Element) → times-in x (evicts-of ds) ≤ 1
@@ -140,17 +140,17 @@ evicts-once l (d ∷ ds) v g x = go (cases-lt (times-in x (d .evicts)) 1) (cases
     F = replay-fits l (d ∷ ds) v g
 
     both : times-in x (d .evicts ++ evicts-of ds) ≡ times-in x (d .evicts) + times-in x (evicts-of ds)
-    both = often-split x (d .evicts) (evicts-of ds)
+    both = times-split x (d .evicts) (evicts-of ds)
 
     one : times-in x (d .evicts) ≤ 1
-    one = often-one x (d .evicts) (w .few)
+    one = times-one x (d .evicts) (w .few)
 
     never : Like x (d .evicts) → Like x (evicts-of ds) → ⊥
     never a b =
-        lt-not (verifier-after (d .who) ds .clock) (verifier-after (d .who) ds .last-evicted) (d .now .clock) (d .now .last-evicted) (p .goes-past)
-        (subst (λ y. Le y (d .now .last-evicted) (verifier-after (d .who) ds .clock) (verifier-after (d .who) ds .last-evicted)) (p .at-clock)
-        (subst (λ y. Le (a .which .timestamp) y (verifier-after (d .who) ds .clock) (verifier-after (d .who) ds .last-evicted)) (p .at-last)
-        (subst (λ y. Le (a .which .timestamp) (path-of (a .which .rec)) (verifier-after y ds .clock) (verifier-after y ds .last-evicted)) (p .by-it) behind)))
+        before-not-with (verifier-after (d .who) ds .clock) (verifier-after (d .who) ds .last-evicted) (d .now .clock) (d .now .last-evicted) (p .goes-past)
+        (subst (λ y. Upto-with y (d .now .last-evicted) (verifier-after (d .who) ds .clock) (verifier-after (d .who) ds .last-evicted)) (p .at-clock)
+        (subst (λ y. Upto-with (a .which .timestamp) y (verifier-after (d .who) ds .clock) (verifier-after (d .who) ds .last-evicted)) (p .at-last)
+        (subst (λ y. Upto-with (a .which .timestamp) (path-of (a .which .rec)) (verifier-after y ds .clock) (verifier-after y ds .last-evicted)) (p .by-it) behind)))
       where
         p : Put (d .who) (verifier-after (d .who) ds) (d .now) (a .which)
         p = all-in (Put (d .who) (verifier-after (d .who) ds) (d .now)) (a .which) (d .evicts) (a .there) (w .put)
@@ -167,18 +167,18 @@ evicts-once l (d ∷ ds) v g x = go (cases-lt (times-in x (d .evicts)) 1) (cases
         times-in x (d .evicts ++ evicts-of ds) ≤ 1
     go (inl a) k ih = let b = both in omega arith
     go (inr a) (inl k) ih = let b = both in let o = one in omega arith
-    go (inr a) (inr k) ih = absurd (never (often-some x (d .evicts) a) (often-some x (evicts-of ds) k))
+    go (inr a) (inr k) ih = absurd (never (times-some x (d .evicts) a) (times-some x (evicts-of ds) k))
 
 -- each entry's elements, by its clock
 abbrev Timed : Replayed → Type 0
-Timed d = All (λ x. Mlt (x .timestamp) (clock-of d)) (d .adds) × All (λ x. x .timestamp ≡ clock-of d) (d .evicts)
+Timed d = All (λ x. Before (x .timestamp) (clock-of d)) (d .adds) × All (λ x. x .timestamp ≡ clock-of d) (d .evicts)
 
 timed : (ds : List Replayed) → Replay ds → All Timed ds
 timed [] v = tt
 timed (d ∷ ds) v =
     let w = went d ds (v .0) in (
       (
-        all-map (Came (verifier-after (d .who) ds) (d .now)) (λ x. Mlt (x .timestamp) (clock-of d)) (d .adds) (λ x c. c .past) (w .came),
+        all-map (Came (verifier-after (d .who) ds) (d .now)) (λ x. Before (x .timestamp) (clock-of d)) (d .adds) (λ x c. c .past) (w .came),
         all-map (Put (d .who) (verifier-after (d .who) ds) (d .now)) (λ x. x .timestamp ≡ clock-of d) (d .evicts) (λ x p. p .at-clock) (w .put),
       ),
       timed ds (v .2),
@@ -189,7 +189,7 @@ pub record Supplied (x : Element) (d : Replayed) (os : List Replayed) : Type 0 w
   pub by : Replayed
   pub in-them : Member by os
   pub put : Member x (by .evicts)
-  pub sooner : Mlt (clock-of by) (clock-of d)
+  pub sooner : Before (clock-of by) (clock-of d)
 
 matched-each : (P : Element → Type 0) (xs : List Element) → ((x : Element) → Member x xs → P x) → Matched P xs
 matched-each P [] f = tt
@@ -202,7 +202,7 @@ matched-down [] h s o = tt
 matched-down (d ∷ os) h s o = (
   matched-each (Pending (adds-of os) (evicts-of os)) (d .adds) pending,
   matched-down os (h .1) (λ y i x k. shift y i x (s y (inr i) x k))
-      (λ x k. let a = o x (in-right x (d .adds) (adds-of os) k) in let b = often-split x (d .adds) (adds-of os) in omega arith),
+      (λ x k. let a = o x (in-right x (d .adds) (adds-of os) k) in let b = times-split x (d .adds) (adds-of os) in omega arith),
 )
   where
     pending : (x : Element) → Member x (d .adds) → Pending (adds-of os) (evicts-of os) x
@@ -212,14 +212,14 @@ matched-down (d ∷ os) h s o = (
         away S = go (S .in-them)
           where
             go : Member (S .by) (d ∷ os) → Member x (evicts-of os)
-            go (inl i) = absurd (mlt-not (clock-of (S .by)) (clock-of d) (S .sooner) (subst (λ z. Mle (clock-of d) (clock-of z)) (sym i) (mle-refl (clock-of d))))
+            go (inl i) = absurd (before-not (clock-of (S .by)) (clock-of d) (S .sooner) (subst (λ z. Upto (clock-of d) (clock-of z)) (sym i) (upto-refl (clock-of d))))
             go (inr j) = to-gathered (λ y. y .evicts) x (S .by) os j (S .put)
 
         twice : Member x (adds-of os) → ⊥
         twice l =
-            let a = often-in x (d .adds) k in
-            let b = often-in x (adds-of os) l in
-            let c = often-split x (d .adds) (adds-of os) in
+            let a = times-member x (d .adds) k in
+            let b = times-member x (adds-of os) l in
+            let c = times-split x (d .adds) (adds-of os) in
             let e = o x (in-left x (d .adds) (adds-of os) k) in
             omega arith
 
@@ -227,7 +227,7 @@ matched-down (d ∷ os) h s o = (
     shift y i x S = go (S .in-them)
       where
         go : Member (S .by) (d ∷ os) → Supplied x y os
-        go (inl j) = absurd (mlt-not (clock-of (S .by)) (clock-of y) (S .sooner) (subst (λ z. Mle (clock-of y) (clock-of z)) (sym j) (all-in (λ z. Mle (clock-of z) (clock-of d)) y os i (h .0))))
+        go (inl j) = absurd (before-not (clock-of (S .by)) (clock-of y) (S .sooner) (subst (λ z. Upto (clock-of y) (clock-of z)) (sym j) (all-in (λ z. Upto (clock-of z) (clock-of d)) y os i (h .0))))
         go (inr k) = record { by = S .by; in-them = k; put = S .put; sooner = S .sooner }
 
 -- as often evicted as added, in the epochs below n
@@ -246,13 +246,13 @@ cut-matched l n ds v g even = matched-down (sorted (cut n ds)) (sorted-down (cut
     back : (d : Replayed) → Member d (sorted (cut n ds)) → Member d ds × (clock-of d .epoch < n)
     back d i = cut-in-all d n ds (sorted-in d (cut n ds) i)
 
-    early : (d : Replayed) → Member d ds → clock-of d .epoch < n → (x : Element) → Member x (d .adds) → Mlt (x .timestamp) (clock-of d) × (x .timestamp .epoch < n)
+    early : (d : Replayed) → Member d ds → clock-of d .epoch < n → (x : Element) → Member x (d .adds) → Before (x .timestamp) (clock-of d) × (x .timestamp .epoch < n)
     early d i k x h =
-        let m : Mlt (x .timestamp) (clock-of d) = all-in (λ y. Mlt (y .timestamp) (clock-of d)) x (d .adds) h (all-in Timed d ds i T .0) in
+        let m : Before (x .timestamp) (clock-of d) = all-in (λ y. Before (y .timestamp) (clock-of d)) x (d .adds) h (all-in Timed d ds i T .0) in
         (m, let a = m .0 in omega arith)
 
     supply : (d : Replayed) → Member d (sorted (cut n ds)) → (x : Element) → Member x (d .adds) → Supplied x d (sorted (cut n ds))
-    supply d i x h = go (often-some x (evicts-of ds) many)
+    supply d i x h = go (times-some x (evicts-of ds) many)
       where
         d-in : Member d ds × (clock-of d .epoch < n)
         d-in = back d i
@@ -260,11 +260,11 @@ cut-matched l n ds v g even = matched-down (sorted (cut n ds)) (sorted-down (cut
         x-in : Member x (adds-of ds)
         x-in = to-gathered (λ y. y .adds) x d ds (d-in .0) h
 
-        when-x : Mlt (x .timestamp) (clock-of d) × (x .timestamp .epoch < n)
+        when-x : Before (x .timestamp) (clock-of d) × (x .timestamp .epoch < n)
         when-x = early d (d-in .0) (d-in .1) x h
 
         many : 1 ≤ times-in x (evicts-of ds)
-        many = let a = often-in x (adds-of ds) x-in in let b = even x x-in (when-x .1) in omega arith
+        many = let a = times-member x (adds-of ds) x-in in let b = even x x-in (when-x .1) in omega arith
 
         go : Like x (evicts-of ds) → Supplied x d (sorted (cut n ds))
         go L = by (from-gathered (λ y. y .evicts) x ds (subst (λ y. Member y (evicts-of ds)) (sym same) (L .there)))
@@ -279,7 +279,7 @@ cut-matched l n ds v g even = matched-down (sorted (cut n ds)) (sorted-down (cut
                   by = R .entry;
                   in-them = in-sorted (R .entry) (cut n ds) (in-cut (R .entry) n ds (R .among) (subst (λ m. m .epoch < n) at-it (when-x .1)));
                   put = R .has;
-                  sooner = subst (λ m. Mlt m (clock-of d)) at-it (when-x .0);
+                  sooner = subst (λ m. Before m (clock-of d)) at-it (when-x .0);
                 }
 
     single : (x : Element) → Member x (adds-of (sorted (cut n ds))) → times-in x (adds-of (sorted (cut n ds))) ≤ 1
@@ -288,8 +288,8 @@ cut-matched l n ds v g even = matched-down (sorted (cut n ds)) (sorted-down (cut
         go : From (λ y. y .adds) x (sorted (cut n ds)) → times-in x (adds-of (sorted (cut n ds))) ≤ 1
         go R =
             let d-in = back (R .entry) (R .among) in
-            let a = often-sorted x (cut n ds) in
-            let b = often-cut x n ds in
+            let a = times-sorted x (cut n ds) in
+            let b = times-cut x n ds in
             let c = even x (to-gathered (λ y. y .adds) x (R .entry) ds (d-in .0) (R .has)) (early (R .entry) (d-in .0) (d-in .1) x (R .has) .1) in
             let e = evicts-once l ds v g x in
             omega arith

@@ -1,18 +1,17 @@
--- What is in use moves, from one place or away to another, and the tree stays as it should be.
-use mathlib.Core.Path.{_≡_, refl, sym, ap, ap₂, subst, _∙_, fun-ext}
+-- A record moves, from a store or away to another place, and the tree stays as it should be.
+use mathlib.Core.Path.{_≡_, refl, sym, ap, ap₂, _∙_}
 use mathlib.Core.Logic.{_⊎_, inl, inr}
-use mathlib.Core.Bool.{Bool, true, false, not, _&&_, _||_}
-use mathlib.Core.List.{List, [], _∷_, _++_}
-use Prim.Native.Nat.{ℕ, zero, suc, _+_, _≤_, _<_}
+use mathlib.Core.Bool.{Bool, true, false}
+use mathlib.Core.List.{List, [], _∷_}
+use Prim.Native.Nat.{ℕ}
 use native.Mathlib.Omega.{arith}
-use lib.Dec.{ltb, leb, eqb}
-use Rattle.std.proofs.shelf.Tests.{false≢true, true≢false, both-ways, and-parts, and-from, eqb-true, eq-eqb, cases-bool}
+use Rattle.std.proofs.shelf.Tests.{true≢false}
 use Rattle.model.specs.Records.{Path, node, present, Children, Record, data-record}
 use Rattle.model.specs.Verifier.{found-by-merkle}
-use Rattle.order.proofs.Paths.{same-is, same-refl, is-same, not-same, same-or, below-self, left-of}
-use Rattle.order.proofs.Shape.{Form, in-use, forks, arm, upd, upd-at, upd-off, one-knows, same-side}
-use Rattle.order.proofs.World.{Where, at, away-merkle, away-blum, Spot, unused, spot, World, Kind, no-kind, by-blum, merkle-at, merkle-away, kind-at, kind, loc-at, loc, Ptr, Tree, targets, form, half, with-half, side-of, arm-form, knows-forks, known, lone, not-self, repoint, half-same, half-other, form-with, form-where, ptr-more}
-use Rattle.order.proofs.Rest.{seen-by, seen-here}
+use Rattle.order.proofs.Paths.{same-or}
+use Rattle.order.proofs.Shape.{forks, arm, upd, upd-at, upd-off, one-points, same-side}
+use Rattle.order.proofs.World.{Where, at, away-merkle, away-blum, Spot, unused, spot, World, Kind, no-kind, by-blum, merkle-at, merkle-away, kind-at, kind, loc-at, loc, Ptr, Tree, targets, form, half, with-half, side-of, arm-form, points-forks, not-self, repoint, half-same, half-other, form-with, form-where}
+use Rattle.order.proofs.Placed.{seen-by, seen-here}
 
 -- facts of a pointer that don't need its owner
 pub ptr-loc : (H : List Record) (l : List ℕ) (h : ℕ) (b : Bool) (k : Kind) → Ptr H [] h b k → Ptr H l h b k
@@ -28,7 +27,7 @@ side-where (node p u) w v d = refl
 module _ (H G : List Record) (W : World) (p : Path) (r : Record) (w v : Where) (T : Tree H W) (isp : W p ≡ spot r w)
     (more : (l : List ℕ) (h : ℕ) (b : Bool) (k : Kind) → Ptr H l h b k → Ptr G l h b k)
     (out : (d : Bool) (c : Path) (h : ℕ) (b : Bool) → (c ≡ p → ⊥) → side-of (W p) d ≡ present c h b → Ptr H (loc-at w) h b (kind (W c)) → Ptr G (loc-at v) h b (kind (W c))) where
-  -- nobody knows anything else of it
+  -- no pointer at it changes
   pub move : ((z : Path) (d : Bool) (h : ℕ) (b : Bool) → side-of (W z) d ≡ present p h b → Ptr H (loc (W z)) h b (kind-at r w) → Ptr G (loc (W z)) h b (kind-at r v)) →
       Tree G (upd W p (spot r v))
   move into = repoint H G W V p T more same off come leave (λ z d c h b m n e. sym (sides z d) ∙ e)
@@ -70,7 +69,7 @@ module _ (H G : List Record) (W : World) (p : Path) (r : Record) (w v : Where) (
           f : side-of (W p) d ≡ present c h b
           f = sym (sides p d) ∙ e
 
-  -- the one that knows it has something else to know of it
+  -- the pointer at it is written anew
   pub move-under : (q : Path) (t : ℕ) (u : Children) (d : Bool) (bt : Bool) (g h : ℕ) (a b : Bool) → W q ≡ spot (node q u) (at t bt) → half u d ≡ present p g a →
       Ptr G (t ∷ []) h b (kind-at r v) →
       Tree G (upd (upd W q (spot (node q (with-half u d (present p h b))) (at t bt))) p (spot r v))
@@ -121,7 +120,7 @@ module _ (H G : List Record) (W : World) (p : Path) (r : Record) (w v : Where) (
         where
           which : (z ≡ q) × (e ≡ d)
           which =
-              one-knows (λ x. form (W x)) (T .shape) q z p d e [] [] (knows-forks (W q) d p g a earlier) (sym (ap forks (same z)) ∙ knows-forks (V z) e p i c f)
+              one-points (λ x. form (W x)) (T .shape) q z p d e [] [] (points-forks (W q) d p g a earlier) (sym (ap forks (same z)) ∙ points-forks (V z) e p i c f)
               (arm-form (W q) d ∙ ap targets earlier) (sym (ap (λ x. arm x e) (same z)) ∙ (arm-form (V z) e ∙ ap targets f))
 
           records-agree : present p h b ≡ present p i c
@@ -152,7 +151,7 @@ module _ (H G : List Record) (W : World) (p : Path) (r : Record) (w v : Where) (
               ap (λ y. side-of (W y) e) j ∙ (ap (λ y. side-of y e) isq ∙ (sym (half-other u d e (present p h b) k) ∙ (ap (λ y. side-of y e) (sym at-q) ∙ (ap (λ y. side-of (V y) e) (sym j) ∙ f))))
           go (inr k) l = ap (λ y. side-of y e) (sym (at-z z n k)) ∙ f
 
--- nothing that is known here by the tree
+-- what a node points at is not in the store by Merkle: the pointer's facts don't need its owner
 pub no-child : (H : List Record) (t : ℕ) (h : ℕ) (b : Bool) (s : Spot) → Ptr H (t ∷ []) h b (kind s) → found-by-merkle (seen-by t s) ≡ false → Ptr H [] h b (kind s)
 unfolding found-by-merkle
 no-child H t h b unused p e = p

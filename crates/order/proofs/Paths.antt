@@ -1,13 +1,13 @@
--- Texts that are the same, and what is below what in the tree.
-use mathlib.Core.Path.{_≡_, refl, sym, ap, ap₂, subst, _∙_}
+-- Bytes that are the same, and which path is below which.
+use mathlib.Core.Path.{_≡_, refl, sym, ap₂, _∙_}
 use mathlib.Core.Logic.{_⊎_, inl, inr}
-use mathlib.Core.Bool.{Bool, true, false, not, _&&_, _||_}
-use mathlib.Core.List.{List, [], _∷_, _++_}
-use Prim.Native.Nat.{ℕ, zero, suc, _+_, _≤_, _<_}
+use mathlib.Core.Bool.{Bool, true, false}
+use mathlib.Core.List.{List, [], _∷_}
+use Prim.Native.Nat.{ℕ, _<_}
 use native.Mathlib.Omega.{arith}
-use lib.Dec.{ltb, leb, eqb}
+use lib.Dec.{eqb}
 use lib.ListN.{length}
-use Rattle.std.proofs.shelf.Tests.{false≢true, true≢false, both-ways, and-parts, and-from, eqb-true, eq-eqb, cases-bool}
+use Rattle.std.proofs.shelf.Tests.{false≢true, both-ways, and-parts, and-from, eqb-true, eq-eqb}
 use Rattle.model.specs.Records.{same-bytes, Path, below, side}
 
 pub same-is : (x y : List ℕ) → same-bytes x y ≡ true → x ≡ y
@@ -104,5 +104,5 @@ ways (x ∷ xs) (y ∷ ys) (z ∷ zs) e f =
 abbrev pub left-of : Path → Path → Bool
 left-of x q = eqb (side x q) 0
 
-pub sd-through : (x y z : Path) → below x y ≡ true → below y z ≡ true → left-of x z ≡ left-of y z
-sd-through x y z e f = rw (side-through x y z e f)
+pub left-through : (x y z : Path) → below x y ≡ true → below y z ≡ true → left-of x z ≡ left-of y z
+left-through x y z e f = rw (side-through x y z e f)

@@ -1,29 +1,28 @@
 -- The core theorem: in any replay of right entries in which each AddBlum is matched, every get has what was set last, or two records or keys that were hashed collide.
-use mathlib.Core.Path.{_≡_, refl, sym, ap, ap₂, subst, _∙_, fun-ext}
+use mathlib.Core.Path.{_≡_, refl, sym, ap, subst, _∙_}
 use mathlib.Core.Logic.{_⊎_, inl, inr}
-use mathlib.Core.Bool.{Bool, true, false, not, _&&_, _||_}
+use mathlib.Core.Bool.{Bool, true, false}
 use mathlib.Core.List.{List, [], _∷_, _++_}
-use Prim.Native.Nat.{ℕ, zero, suc, _+_, _≤_, _<_}
+use Prim.Native.Nat.{ℕ, _+_}
 use native.Mathlib.Omega.{arith}
-use lib.Dec.{ltb, leb, eqb}
-use lib.ListN.{length}
-use Rattle.std.proofs.shelf.Tests.{false≢true, true≢false, and-parts, and-from, eqb-true, eq-eqb, ne-eqb, cases-eq}
+use lib.Dec.{eqb}
+use Rattle.std.proofs.shelf.Tests.{false≢true, and-from, eq-eqb, ne-eqb, cases-eq}
 use Rattle.model.specs.Records.{pick, Bytes, Path, key-path, node, present, no-children, Record, path-of}
 use Rattle.model.specs.Verifier.{Entry, Stored, Verifier, find, nonempty, goes, Element, verifier-step, new-verifier}
 use Rattle.model.specs.Monitor.{Call, is-call, called}
 use Rattle.model.specs.Order.{value-after, get-right, gets-right, Member}
 use Rattle.model.specs.Statements.{stored-twice}
-use Rattle.order.proofs.Paths.{same-is, same-refl, is-same, not-same, same-or, below-self, left-of}
-use Rattle.order.proofs.Shape.{Form, free, leaf, fork, in-use, forks, arm, Cover, Reaches, Shape, upd, upd-at, upd-off}
+use Rattle.order.proofs.Paths.{same-or, below-self}
+use Rattle.order.proofs.Shape.{in-use, forks, arm, Cover, Shape, upd, upd-at, upd-off}
 use Rattle.order.proofs.Lists.{picks, picks-not, in-split, in-left, in-right}
 use Rattle.order.proofs.Stores.{find-at, find-off}
-use Rattle.order.proofs.World.{Where, at, Spot, unused, spot, World, Kind, kind, loc, Ptr, Tree, form, half, side-of}
+use Rattle.order.proofs.World.{at, unused, spot, World, kind, loc, Ptr, Tree, form, side-of}
 use Rattle.order.proofs.Ways.{Ways, by-ways}
-use Rattle.order.proofs.Invariant.{Inv, Collide, Then, Matched, Fit-entry, Keeps, collide-map, rest-less, never}
+use Rattle.order.proofs.Invariant.{Inv, Collide, Then, Matched, Fit-entry, Keeps, collide-map, placed-less, never}
 use Rattle.order.proofs.AddMerkle.{keeps-new-child, keeps-same-child, keeps-new-node}
 use Rattle.order.proofs.Evicts.{keeps-evicts-merkle, keeps-evicts-blum, keeps-evicts-blum-merkle}
 use Rattle.order.proofs.Calls.{keeps-adds-blum, keeps-next-epoch, keeps-verify-epoch, keeps-gets, keeps-sets}
-use Rattle.order.proofs.Rest.{seen-by, seen-here, seen-other, Fit, Has-value, Rest}
+use Rattle.order.proofs.Placed.{seen-by, seen-other, Fit, Has-value, Placed}
 
 -- a right entry: by whom, what it left, and what it added, evicted and hashed
 pub record Replayed : Type 0 where
@@ -153,7 +152,7 @@ root-tree = record { shape = shape; ptr = ptr }
         go (inl i) false f = absurd (never p h b (sym (ap (λ s. side-of s false) (root-at q i)) ∙ f))
         go (inr n) a f = absurd (never p h b (sym (ap (λ s. side-of s a) (root-off q n)) ∙ f))
 
-root-rest : Rest (stores-after []) [] (Pending [] []) root-world
+root-rest : Placed (stores-after []) [] (Pending [] []) root-world
 unfolding pick stored-twice nonempty find value-after path-of
 root-rest = record { link = link; once = once; fit = fit; value = value; pend = λ e p. absurd (p .0) }
   where
@@ -255,7 +254,7 @@ replay-right (d ∷ ds) v m = go (replay-right ds (v .2) (m .1))
               record {
                 world = K .0 .world;
                 tree = K .0 .tree;
-                rest = rest-less (stores-after (d ∷ ds)) (called (d .who) (d .now) (d .entry) bs) (Then (Pending ad ws) (d .adds) (d .evicts)) (Pending (d .adds ++ ad) (d .evicts ++ ws)) (K .0 .world) (pending-then ad ws (d .adds) (d .evicts)) (K .0 .rest);
+                rest = placed-less (stores-after (d ∷ ds)) (called (d .who) (d .now) (d .entry) bs) (Then (Pending ad ws) (d .adds) (d .evicts)) (Pending (d .adds ++ ad) (d .evicts ++ ws)) (K .0 .world) (pending-then ad ws (d .adds) (d .evicts)) (K .0 .rest);
               },
               right-more (d .who) (d .now) (d .entry) bs (K .1) (J .1),
             )

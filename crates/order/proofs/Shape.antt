@@ -1,14 +1,11 @@
--- Which paths are in use, and which place knows which: the order of the tree, without what is at the places.
-use mathlib.Core.Path.{_≡_, refl, sym, ap, ap₂, subst, _∙_, fun-ext}
+-- The tree's shape: which paths are in use, and which node points at which, without the records.
+use mathlib.Core.Path.{_≡_, refl, sym, ap, subst, _∙_, fun-ext}
 use mathlib.Core.Logic.{_⊎_, inl, inr}
-use mathlib.Core.Bool.{Bool, true, false, not, _&&_, _||_}
-use mathlib.Core.List.{List, [], _∷_, _++_}
-use Prim.Native.Nat.{ℕ, zero, suc, _+_, _≤_, _<_}
-use native.Mathlib.Omega.{arith}
-use lib.Dec.{ltb, leb, eqb}
-use Rattle.std.proofs.shelf.Tests.{false≢true, true≢false, both-ways, and-parts, and-from, eqb-true, eq-eqb, cases-bool}
+use mathlib.Core.Bool.{Bool, true, false}
+use mathlib.Core.List.{List, [], _∷_}
+use Rattle.std.proofs.shelf.Tests.{false≢true, true≢false}
 use Rattle.model.specs.Records.{pick, same-bytes, Path, below}
-use Rattle.order.proofs.Paths.{same-is, same-refl, is-same, not-same, same-or, below-longer, below-self, below-circle, below-trans, side-through, Way, one, under, over, ways, left-of, sd-through}
+use Rattle.order.proofs.Paths.{is-same, not-same, same-or, below-self, below-circle, below-trans, Way, one, under, over, ways, left-of, left-through}
 
 -- a function changed at one path
 abbrev pub upd : {A : Type 0} → (Path → A) → Path → A → Path → A
@@ -22,7 +19,7 @@ pub upd-off : {A : Type 0} (f : Path → A) (p : Path) (a : A) (x : Path) → (x
 unfolding pick
 upd-off f p a x e = rw (not-same x p e)
 
--- a path: not in use; a key; a place, with the next path in use on either side, none or one
+-- a path: not in use; a key's; a node's, with the next path in use on either side, none or one
 pub data Form : Type 0 where
   free : Form
   leaf : Form
@@ -66,7 +63,7 @@ pub record Cover (f : Path → Form) (z : Path) (e : Bool) (ps : List Path) : Ty
 abbrev pub Shape : (Path → Form) → Type 0
 Shape f = (z : Path) (e : Bool) → forks (f z) ≡ true → Cover f z e (arm (f z) e)
 
--- a path that comes into use between q and what q knows
+-- a path that comes into use between q and what q points at
 pub forks-use : (m : Form) → forks m ≡ true → in-use m ≡ true
 forks-use free e = e
 forks-use leaf e = refl
@@ -184,8 +181,8 @@ module _ (f g : Path → Form) (q x : Path) (m : Form) (shape : Shape f) (isq : 
 
       go : Way z q → Reaches (arm (f z) e) x
       go (one i) = absurd (k i)
-      go (under c) = absurd (below-circle x z b (between z (forks-use (f z) u) c (sym (sd-through x z q b c))))
-      go (over c) = deeper (arm (f z) e) c (shape z e u .all q (forks-use (f q) isq) c (sym (sd-through x q z bx c) ∙ s))
+      go (under c) = absurd (below-circle x z b (between z (forks-use (f z) u) c (sym (left-through x z q b c))))
+      go (over c) = deeper (arm (f z) e) c (shape z e u .all q (forks-use (f q) isq) c (sym (left-through x q z bx c) ∙ s))
 
   pub insert : Shape g
   insert z e u = go (same-or z x) (same-or z q)
@@ -195,10 +192,10 @@ module _ (f g : Path → Form) (q x : Path) (m : Form) (shape : Shape f) (isq : 
       go (inr n) (inl i) = rw (i, at-q) (at-arm e)
       go (inr n) (inr k) = rw (at-z z n k) (more z e (arm (f z) e) (shape z e (rw (at-z z n k) at u)) (through z e k (rw (at-z z n k) at u)))
 
--- at most one place knows a path
-pub one-knows : (f : Path → Form) → Shape f → (q z p : Path) (d e : Bool) (ps qs : List Path) → forks (f q) ≡ true → forks (f z) ≡ true →
+-- at most one node points at a path
+pub one-points : (f : Path → Form) → Shape f → (q z p : Path) (d e : Bool) (ps qs : List Path) → forks (f q) ≡ true → forks (f z) ≡ true →
     arm (f q) d ≡ p ∷ ps → arm (f z) e ≡ p ∷ qs → (z ≡ q) × (e ≡ d)
-one-knows f s q z p d e ps qs uq uz aq az = go (ways p z q (cz .head .1) (cq .head .1))
+one-points f s q z p d e ps qs uq uz aq az = go (ways p z q (cz .head .1) (cq .head .1))
   where
     cq : Cover f q d (p ∷ ps)
     cq = rw aq at (s q d uq)
@@ -207,7 +204,7 @@ one-knows f s q z p d e ps qs uq uz aq az = go (ways p z q (cz .head .1) (cq .he
     cz = rw az at (s z e uz)
 
     no : (a b : Path) (c : Bool) (rs : List Path) → Cover f a c (p ∷ rs) → in-use (f b) ≡ true → below b a ≡ true → below p b ≡ true → ⊥
-    no a b c rs v u ba pb = by (v .all b u ba (sym (sd-through p b a pb ba) ∙ v .head .2))
+    no a b c rs v u ba pb = by (v .all b u ba (sym (left-through p b a pb ba) ∙ v .head .2))
       where
         by : (b ≡ p) ⊎ (below b p ≡ true) → ⊥
         by (inl i) = below-self p (rw i at pb)

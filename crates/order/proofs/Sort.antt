@@ -1,29 +1,29 @@
 -- The entries of a log that are in certified epochs, in the order of the clocks that they leave.
-use mathlib.Core.Path.{_≡_, refl, sym, ap, ap₂, subst, _∙_, fun-ext}
+use mathlib.Core.Path.{_≡_, refl, sym, ap, subst, _∙_}
 use mathlib.Core.Logic.{_⊎_, inl, inr}
-use mathlib.Core.Bool.{Bool, true, false, not, _&&_, _||_}
-use mathlib.Core.List.{List, [], _∷_, _++_, append-assoc}
-use Prim.Native.Nat.{ℕ, zero, suc, _+_, _≤_, _<_}
+use mathlib.Core.Bool.{Bool, true, false}
+use mathlib.Core.List.{List, [], _∷_, _++_}
+use Prim.Native.Nat.{ℕ, _+_, _<_}
 use native.Mathlib.Omega.{arith}
-use lib.Dec.{ltb, leb, eqb}
+use lib.Dec.{ltb, eqb}
 use lib.ListN.{length, length-append}
-use Rattle.std.proofs.shelf.Tests.{false≢true, true≢false, both-ways, and-parts, ltb-true, lt-ltb, eqb-true, eq-eqb, ne-eqb, cases-eq}
+use Rattle.std.proofs.shelf.Tests.{both-ways, ltb-true, lt-ltb, ne-eqb, cases-eq}
 use Rattle.model.specs.Records.{pick, Record}
 use Rattle.model.specs.Verifier.{Timestamp, earlier, verifier-step}
 use Rattle.model.specs.Monitor.{Call, is-call}
 use Rattle.model.specs.Order.{in-epochs-below, of-verifier, Member}
-use Rattle.order.proofs.Lists.{picks, picks-not, All, all-map, in-split, in-left, in-right}
+use Rattle.order.proofs.Lists.{picks, picks-not, All, all-map}
 use Rattle.order.proofs.Invariant.{Collide, collide-map, Fit-entry}
-use Rattle.order.proofs.Replay.{Replayed, verifier-after, adds-of, evicts-of, hashes-of, calls-of, Step-of, From, from-gathered, to-gathered, Pending, Replay, All-matched}
-use Rattle.order.proofs.Log.{Looked-at, All-looked-at, after-at, after-off}
-use Rattle.order.proofs.Clocks.{Mle, Mlt, before-true, before-false, mlt-le, mle-trans, mlt-le-trans, mle-lt-trans, mlt-not, mle-refl, Le, le-refl, le-trans, le-moment, Came, Put, Went, Goes-well, well}
+use Rattle.order.proofs.Replay.{Replayed, verifier-after, hashes-of, calls-of, Step-of, from-gathered, to-gathered, Replay}
+use Rattle.order.proofs.Log.{after-at, after-off}
+use Rattle.order.proofs.Clocks.{Upto, earlier-before, earlier-not, before-upto, upto-trans, before-not, upto-refl, upto-clock, Went, Went-well, well}
 
 abbrev pub clock-of : Replayed → Timestamp
 clock-of d = d .now .clock
 
 -- how an entry went
 pub went : (d : Replayed) (ds : List Replayed) → Step-of d ds → Went (d .who) (verifier-after (d .who) ds) (d .now) (d .adds) (d .evicts)
-went d ds e = subst (Goes-well (d .who) (verifier-after (d .who) ds)) e (well (d .who) (verifier-after (d .who) ds) (d .entry))
+went d ds e = subst (Went-well (d .who) (verifier-after (d .who) ds)) e (well (d .who) (verifier-after (d .who) ds) (d .entry))
 
 abbrev pub cut : ℕ → List Replayed → List Replayed
 cut n [] = []
@@ -64,7 +64,7 @@ cut-replay n (d ∷ ds) v = go (ltb (clock-of d .epoch) n) refl (cut-replay n ds
   where
     go : (b : Bool) → ltb (clock-of d .epoch) n ≡ b → Replay (cut n ds) → Replay (pick b (d ∷ cut n ds) (cut n ds))
     go true i ih =
-        let w = le-moment (verifier-after (d .who) ds .clock) (verifier-after (d .who) ds .last-evicted) (d .now .clock) (d .now .last-evicted) (went d ds (v .0) .onward) .0 in
+        let w = upto-clock (verifier-after (d .who) ds .clock) (verifier-after (d .who) ds .last-evicted) (d .now .clock) (d .now .last-evicted) (went d ds (v .0) .onward) .0 in
         let k = ltb-true (clock-of d .epoch) n i in
         (ap (λ c. verifier-step (d .who) c (d .entry)) (cut-after n (d .who) ds (omega arith)) ∙ v .0, v .1, ih)
     go false i ih = ih
@@ -131,36 +131,36 @@ insert-replay d (x ∷ xs) a v s f = go (earlier (clock-of d) (clock-of x)) refl
         apart : x .who ≡ d .who → ⊥
         apart j = both-ways (earlier (clock-of d) (clock-of x)) (a .0 j) i
 
-pub last-on : (t : ℕ) (d : Replayed) (ds : List Replayed) → Step-of d ds → Mle (verifier-after t ds .clock) (verifier-after t (d ∷ ds) .clock)
+pub last-on : (t : ℕ) (d : Replayed) (ds : List Replayed) → Step-of d ds → Upto (verifier-after t ds .clock) (verifier-after t (d ∷ ds) .clock)
 last-on t d ds e = go (cases-eq t (d .who))
   where
-    go : (t ≡ d .who) ⊎ (t ≡ d .who → ⊥) → Mle (verifier-after t ds .clock) (verifier-after t (d ∷ ds) .clock)
+    go : (t ≡ d .who) ⊎ (t ≡ d .who → ⊥) → Upto (verifier-after t ds .clock) (verifier-after t (d ∷ ds) .clock)
     go (inl i) =
-        subst (λ c. Mle (verifier-after t ds .clock) (c .clock)) (sym (after-at t d ds i))
-        (subst (λ u. Mle (verifier-after u ds .clock) (clock-of d)) (sym i) (le-moment (verifier-after (d .who) ds .clock) (verifier-after (d .who) ds .last-evicted) (d .now .clock) (d .now .last-evicted) (went d ds e .onward)))
-    go (inr n) = subst (λ c. Mle (verifier-after t ds .clock) (c .clock)) (sym (after-off t d ds n)) (mle-refl (verifier-after t ds .clock))
+        subst (λ c. Upto (verifier-after t ds .clock) (c .clock)) (sym (after-at t d ds i))
+        (subst (λ u. Upto (verifier-after u ds .clock) (clock-of d)) (sym i) (upto-clock (verifier-after (d .who) ds .clock) (verifier-after (d .who) ds .last-evicted) (d .now .clock) (d .now .last-evicted) (went d ds e .onward)))
+    go (inr n) = subst (λ c. Upto (verifier-after t ds .clock) (c .clock)) (sym (after-off t d ds n)) (upto-refl (verifier-after t ds .clock))
 
 -- a verifier's clock is not before those of its entries
-pub own-le : (ds : List Replayed) → Replay ds → (t : ℕ) → All (λ x. x .who ≡ t → Mle (clock-of x) (verifier-after t ds .clock)) ds
+pub own-le : (ds : List Replayed) → Replay ds → (t : ℕ) → All (λ x. x .who ≡ t → Upto (clock-of x) (verifier-after t ds .clock)) ds
 own-le [] v t = tt
 own-le (d ∷ ds) v t = (
-  (λ i. subst (λ c. Mle (clock-of d) (c .clock)) (sym (after-at t d ds (sym i))) (mle-refl (clock-of d))),
-  all-map (λ x. x .who ≡ t → Mle (clock-of x) (verifier-after t ds .clock)) (λ x. x .who ≡ t → Mle (clock-of x) (verifier-after t (d ∷ ds) .clock)) ds
-      (λ x f i. mle-trans (clock-of x) (verifier-after t ds .clock) (verifier-after t (d ∷ ds) .clock) (f i) (last-on t d ds (v .0))) (own-le ds (v .2) t),
+  (λ i. subst (λ c. Upto (clock-of d) (c .clock)) (sym (after-at t d ds (sym i))) (upto-refl (clock-of d))),
+  all-map (λ x. x .who ≡ t → Upto (clock-of x) (verifier-after t ds .clock)) (λ x. x .who ≡ t → Upto (clock-of x) (verifier-after t (d ∷ ds) .clock)) ds
+      (λ x f i. upto-trans (clock-of x) (verifier-after t ds .clock) (verifier-after t (d ∷ ds) .clock) (f i) (last-on t d ds (v .0))) (own-le ds (v .2) t),
 )
 
-not-before : (a b : Timestamp) → Mle b a → earlier a b ≡ false
+not-before : (a b : Timestamp) → Upto b a → earlier a b ≡ false
 not-before a b h = go (earlier a b) refl
   where
     go : (x : Bool) → earlier a b ≡ x → x ≡ false
-    go true e = absurd (mlt-not a b (before-true a b e) h)
+    go true e = absurd (before-not a b (earlier-before a b e) h)
     go false e = refl
 
 owns : (d : Replayed) (ds : List Replayed) → Replay (d ∷ ds) → All (Own d) (sorted ds)
 owns d ds v =
-    sorted-all (Own d) ds (all-map (λ x. x .who ≡ d .who → Mle (clock-of x) (verifier-after (d .who) ds .clock)) (Own d) ds
-    (λ x f i. not-before (clock-of d) (clock-of x) (mle-trans (clock-of x) (verifier-after (d .who) ds .clock) (clock-of d) (f i)
-    (le-moment (verifier-after (d .who) ds .clock) (verifier-after (d .who) ds .last-evicted) (d .now .clock) (d .now .last-evicted) (went d ds (v .0) .onward))))
+    sorted-all (Own d) ds (all-map (λ x. x .who ≡ d .who → Upto (clock-of x) (verifier-after (d .who) ds .clock)) (Own d) ds
+    (λ x f i. not-before (clock-of d) (clock-of x) (upto-trans (clock-of x) (verifier-after (d .who) ds .clock) (clock-of d) (f i)
+    (upto-clock (verifier-after (d .who) ds .clock) (verifier-after (d .who) ds .last-evicted) (d .now .clock) (d .now .last-evicted) (went d ds (v .0) .onward))))
     (own-le ds (v .2) (d .who)))
 
 pub sorted-last : (t : ℕ) (ds : List Replayed) → Replay ds → verifier-after t (sorted ds) ≡ verifier-after t ds
@@ -172,10 +172,10 @@ sorted-replay [] v = tt
 sorted-replay (d ∷ ds) v =
     insert-replay d (sorted ds) (owns d ds v) (sorted-replay ds (v .2)) (ap (λ c. verifier-step (d .who) c (d .entry)) (sorted-last (d .who) ds (v .2)) ∙ v .0) (v .1)
 
--- the latest first
+-- the latest clock first
 abbrev pub Down : List Replayed → Type 0
 Down [] = Unit
-Down (x ∷ xs) = All (λ y. Mle (clock-of y) (clock-of x)) xs × Down xs
+Down (x ∷ xs) = All (λ y. Upto (clock-of y) (clock-of x)) xs × Down xs
 
 pub insert-down : (d : Replayed) (os : List Replayed) → Down os → Down (insert d os)
 unfolding pick
@@ -183,9 +183,9 @@ insert-down d [] h = (tt, tt)
 insert-down d (x ∷ xs) h = go (earlier (clock-of d) (clock-of x)) refl (insert-down d xs (h .1))
   where
     go : (b : Bool) → earlier (clock-of d) (clock-of x) ≡ b → Down (insert d xs) → Down (pick b (x ∷ insert d xs) (d ∷ (x ∷ xs)))
-    go true i ih = (insert-all (λ y. Mle (clock-of y) (clock-of x)) d xs (mlt-le (clock-of d) (clock-of x) (before-true (clock-of d) (clock-of x) i)) (h .0), ih)
+    go true i ih = (insert-all (λ y. Upto (clock-of y) (clock-of x)) d xs (before-upto (clock-of d) (clock-of x) (earlier-before (clock-of d) (clock-of x) i)) (h .0), ih)
     go false i ih =
-        ((before-false (clock-of d) (clock-of x) i, all-map (λ y. Mle (clock-of y) (clock-of x)) (λ y. Mle (clock-of y) (clock-of d)) xs (λ y f. mle-trans (clock-of y) (clock-of x) (clock-of d) f (before-false (clock-of d) (clock-of x) i)) (h .0)), h)
+        ((earlier-not (clock-of d) (clock-of x) i, all-map (λ y. Upto (clock-of y) (clock-of x)) (λ y. Upto (clock-of y) (clock-of d)) xs (λ y f. upto-trans (clock-of y) (clock-of x) (clock-of d) f (earlier-not (clock-of d) (clock-of x) i)) (h .0)), h)
 
 pub sorted-down : (ds : List Replayed) → Down (sorted ds)
 sorted-down [] = tt

@@ -1,29 +1,29 @@
 -- The eight statements.
 use mathlib.Core.Path.{_≡_, refl, sym, ap, ap₂, subst, _∙_}
 use mathlib.Core.Logic.{_⊎_, inl, inr}
-use mathlib.Core.Bool.{Bool, true, false, _&&_, _||_}
+use mathlib.Core.Bool.{Bool, true, false, _&&_}
 use mathlib.Core.List.{List, [], _∷_, _++_}
 use Prim.Native.Nat.{ℕ, zero, suc, _+_, _%_, _≤_, _<_}
 use native.Mathlib.Omega.{arith}
 use native.Mathlib.Nat.{add-comm}
 use lib.Dec.{ltb, leb, eqb}
 use lib.ListN.{length}
-use Rattle.std.proofs.shelf.Tests.{both-ways, and-parts, or-parts, or-from, ltb-true, le-ltb, leb-true, eqb-true, eq-eqb, ne-eqb, cases-eq, cases-lt}
+use Rattle.std.proofs.shelf.Tests.{and-parts, or-parts, or-from, ltb-true, le-ltb, leb-true, eqb-true, eq-eqb, ne-eqb, cases-eq, cases-lt}
 use Rattle.std.specs.declared.option.Option.the-variants.{None, Some}
 use Rattle.model.specs.Records.{pick, Bytes, same-bytes, Path, Pointer, absent, present, Value, Record, data-record, node, no-children, path-of, record-bytes}
-use Rattle.model.specs.Verifier.{Timestamp, earlier-with, Entry, add-merkle, add-blum, evict-merkle, evict-blum, evict-blum-merkle, next-epoch, verify-epoch, get, set, Stored, Verifier, find, nonempty, stores, updated, Element, Step, fails, goes, verifier-step}
-use Rattle.model.specs.Monitor.{Limits, Event, logged, malformed, Answer, refused, wrong, right, certified, Sum, Call, State, verifier-at, with-verifier, sum-at, with-sum, modulus, element-hash, add-element, evict-element, add-elements, evict-elements, certify, entry-code, is-call, in-range, store-full, too-far-ahead, epoch-named, refusal, place-of, Response, stop, called, accepted, right-answer, performed, respond, after, answer, state}
-use Rattle.model.specs.Order.{in-epochs-below, certified-calls, Member}
+use Rattle.model.specs.Verifier.{Timestamp, earlier-with, Entry, add-merkle, add-blum, evict-merkle, evict-blum, evict-blum-merkle, next-epoch, verify-epoch, get, set, Verifier, find, nonempty, updated, Element, Step, fails, goes, verifier-step}
+use Rattle.model.specs.Monitor.{Limits, Event, logged, malformed, refused, wrong, right, certified, Sum, Call, State, verifier-at, with-verifier, sum-at, with-sum, modulus, element-hash, add-elements, evict-elements, entry-code, is-call, in-range, store-full, too-far-ahead, epoch-named, refusal, place-of, stop, called, accepted, performed, respond, after, answer, state}
+use Rattle.model.specs.Order.{in-epochs-below, certified-calls}
 use Rattle.model.specs.Readable.{all-below, readable-bytes, readable-value, readable-pointer, readable-record}
-use Rattle.model.specs.Statements.{of-epoch, Same-epoch, Stays-certified, same-eviction, evicted-again, evicted-twice, Evicted-once, sum-of, Sums-are-sums, stored-twice, Stored-once, Not-later, Earlier, clock-of, last-of, Clock-advances, Add-blum-passes, Moved-on, Evict-blum-advances, Evict-blum-merkle-advances, Stays-stopped, Is-refusal, Wrong-is-final, Bytes-determine, Refused-unchanged}
+use Rattle.model.specs.Statements.{of-epoch, Same-epoch, Stays-certified, same-eviction, evicted-again, evicted-twice, Evicted-once, sum-of, Sums-are-sums, stored-twice, Stored-once, Not-later, Earlier, clock-of, last-of, Clock-advances, Add-blum-passes, Evict-blum-advances, Evict-blum-merkle-advances, Stays-stopped, Wrong-is-final, Bytes-determine, Refused-unchanged}
 use Rattle.order.proofs.Lists.{picks, picks-not, All, all-map}
 use Rattle.order.proofs.Paths.{same-is}
-use Rattle.order.proofs.Stores.{some-changed, once-changed, once-without, once-more}
+use Rattle.order.proofs.Stores.{stores-updated, once-updated, once-without, once-more}
 use Rattle.order.proofs.Bytes.{Fit-pointer, Fit-value, Fit-record, record-tells}
 use Rattle.order.proofs.Ways.{by-ways}
 use Rattle.order.proofs.Replay.{Replayed, verifier-after, evicts-of, Replay}
 use Rattle.order.proofs.Log.{Looked-at, refusing, by-responses, by-states, malformed-stays, Replays, state-replay, at-put, at-off, at-absent}
-use Rattle.order.proofs.Clocks.{Mle, Mlt, mle-refl, Le, le-moment, lt-not, Put, Went, Goes-well, well-adds-blum, well}
+use Rattle.order.proofs.Clocks.{Upto, Before, upto-refl, Upto-with, upto-clock, before-not-with, Put, Went, Went-well, well-adds-blum, well}
 use Rattle.order.proofs.Sort.{went}
 use Rattle.order.proofs.Matched.{evicts-behind}
 use Rattle.order.proofs.Sums.{Settled, settled, certify-on, Late, late, sums-kept, sum-off}
@@ -111,27 +111,27 @@ bytes-determine r q f g e = record-tells r q [] [] (fits r f) (fits q g) (ap (λ
 -- how a right entry went
 went-well : (l : Limits) (s : State) (t : ℕ) (e : Entry) (v : Verifier) (adds evicts : List Element) (hashes : List Record) →
     verifier-step t (verifier-at (s .verifiers) t) e ≡ goes v adds evicts hashes → Went t (verifier-at (s .verifiers) t) v adds evicts
-went-well l s t e v adds evicts hashes i = subst (Goes-well t (verifier-at (s .verifiers) t)) i (well t (verifier-at (s .verifiers) t) e)
+went-well l s t e v adds evicts hashes i = subst (Went-well t (verifier-at (s .verifiers) t)) i (well t (verifier-at (s .verifiers) t) e)
 
 -- ---- 5: a clock never goes back
 
-clock-on : (l : Limits) (s : State) → length (s .verifiers) ≡ l .verifiers → (e : Event) (u : ℕ) → Mle (clock-of s u) (clock-of (after l s e) u)
+clock-on : (l : Limits) (s : State) → length (s .verifiers) ≡ l .verifiers → (e : Event) (u : ℕ) → Upto (clock-of s u) (clock-of (after l s e) u)
 unfolding respond refusal pick
-clock-on l s many (malformed n) u = mle-refl (clock-of s u)
+clock-on l s many (malformed n) u = upto-refl (clock-of s u)
 clock-on l s many (logged t e) u =
-    by-states (λ z. Mle (clock-of s u) (clock-of z u)) l s t e (omega arith) (omega arith) (λ v adds evicts hashes k i. (step v adds evicts hashes k i, step v adds evicts hashes k i))
+    by-states (λ z. Upto (clock-of s u) (clock-of z u)) l s t e (omega arith) (omega arith) (λ v adds evicts hashes k i. (step v adds evicts hashes k i, step v adds evicts hashes k i))
   where
     v₀ : Verifier
     v₀ = verifier-at (s .verifiers) t
 
     step : (v : Verifier) (adds evicts : List Element) (hashes : List Record) → Looked-at l t e → verifier-step t v₀ e ≡ goes v adds evicts hashes →
-        Mle (clock-of s u) (verifier-at (with-verifier (s .verifiers) t v) u .clock)
+        Upto (clock-of s u) (verifier-at (with-verifier (s .verifiers) t v) u .clock)
     step v adds evicts hashes k i = go (cases-eq u t)
       where
-        go : (u ≡ t) ⊎ (u ≡ t → ⊥) → Mle (clock-of s u) (verifier-at (with-verifier (s .verifiers) t v) u .clock)
+        go : (u ≡ t) ⊎ (u ≡ t → ⊥) → Upto (clock-of s u) (verifier-at (with-verifier (s .verifiers) t v) u .clock)
         go (inl j) =
             rw (j, at-put (s .verifiers) t v (let m = many in let a = k .there in omega arith))
-            (le-moment (v₀ .clock) (v₀ .last-evicted) (v .clock) (v .last-evicted) (went-well l s t e v adds evicts hashes i .onward))
+            (upto-clock (v₀ .clock) (v₀ .last-evicted) (v .clock) (v .last-evicted) (went-well l s t e v adds evicts hashes i .onward))
         go (inr n) = rw (at-off (s .verifiers) t v u n) (omega arith)
 
 pub clock-advances : Clock-advances
@@ -144,14 +144,14 @@ clock-advances l es e t = go (clock-on l (state l es) (settled l es .many) e t) 
     b : Timestamp
     b = clock-of (after l (state l es) e) t
 
-    go : Mle a b → (a .epoch < b .epoch) ⊎ (b .epoch ≤ a .epoch) → Not-later a b
+    go : Upto a b → (a .epoch < b .epoch) ⊎ (b .epoch ≤ a .epoch) → Not-later a b
     go m (inl i) = inl i
     go m (inr i) = let k : a .epoch ≡ b .epoch = omega arith in inr (k, m .1 k)
 
 -- where an AddBlum or an evict by Blum leaves the clock
 abbrev Moves : Verifier → Entry → Step → Type 0
 Moves v e fails = Unit
-Moves v (add-blum r m j) (goes d adds evicts hashes) = Mlt m (d .clock)
+Moves v (add-blum r m j) (goes d adds evicts hashes) = Before m (d .clock)
 Moves v (evict-blum p m) (goes d adds evicts hashes) = (earlier-with (v .clock) (v .last-evicted) m p ≡ true) × (d .clock ≡ m) × (d .last-evicted ≡ p)
 Moves v (evict-blum-merkle p q m) (goes d adds evicts hashes) = (earlier-with (v .clock) (v .last-evicted) m p ≡ true) × (d .clock ≡ m) × (d .last-evicted ≡ p)
 Moves v (add-merkle r q) (goes d adds evicts hashes) = Unit
@@ -201,7 +201,7 @@ pub add-blum-passes : Add-blum-passes
 unfolding Add-blum-passes state
 add-blum-passes l es t j r m = when-right l es t (add-blum r m j) (λ v. Earlier m (v .clock)) (λ v adds evicts hashes k. go (v .clock) k (cases-lt (m .epoch) (v .clock .epoch)))
   where
-    go : (c : Timestamp) → Mlt m c → (m .epoch < c .epoch) ⊎ (c .epoch ≤ m .epoch) → Earlier m c
+    go : (c : Timestamp) → Before m c → (m .epoch < c .epoch) ⊎ (c .epoch ≤ m .epoch) → Earlier m c
     go c k (inl i) = inl i
     go c k (inr i) = let x : m .epoch ≡ c .epoch = omega arith in inr (x, k .1 x)
 
@@ -310,12 +310,12 @@ none-twice (d ∷ ds) v = go (d .evicts) (w .few) (w .put) (none-twice ds (v .2)
     w : Went (d .who) c₀ (d .now) (d .adds) (d .evicts)
     w = went d ds (v .0)
 
-    different : (x : Element) → Put (d .who) c₀ (d .now) x → (z : Element) → Le (z .timestamp) (path-of (z .rec)) (verifier-after (z .verifier) ds .clock) (verifier-after (z .verifier) ds .last-evicted) → Apart x z
+    different : (x : Element) → Put (d .who) c₀ (d .now) x → (z : Element) → Upto-with (z .timestamp) (path-of (z .rec)) (verifier-after (z .verifier) ds .clock) (verifier-after (z .verifier) ds .last-evicted) → Apart x z
     different x p z b = go (same-eviction x z) refl
       where
         go : (y : Bool) → (same-eviction x z) ≡ y → y ≡ false
         go false i = refl
-        go true i = absurd (lt-not (c₀ .clock) (c₀ .last-evicted) (d .now .clock) (d .now .last-evicted) (p .goes-past) behind)
+        go true i = absurd (before-not-with (c₀ .clock) (c₀ .last-evicted) (d .now .clock) (d .now .last-evicted) (p .goes-past) behind)
           where
             i1 : (same-bytes (path-of (x .rec)) (path-of (z .rec)) ≡ true) × ((eqb (x .timestamp .epoch) (z .timestamp .epoch) && (eqb (x .timestamp .counter) (z .timestamp .counter) && eqb (x .verifier) (z .verifier))) ≡ true)
             i1 = and-parts (same-bytes (path-of (x .rec)) (path-of (z .rec))) (eqb (x .timestamp .epoch) (z .timestamp .epoch) && (eqb (x .timestamp .counter) (z .timestamp .counter) && eqb (x .verifier) (z .verifier))) i
@@ -335,16 +335,16 @@ none-twice (d ∷ ds) v = go (d .evicts) (w .few) (w .put) (none-twice ds (v .2)
             who : z .verifier ≡ d .who
             who = sym (eqb-true (x .verifier) (z .verifier) (i3 .1)) ∙ p .by-it
 
-            behind : Le (d .now .clock) (d .now .last-evicted) (c₀ .clock) (c₀ .last-evicted)
+            behind : Upto-with (d .now .clock) (d .now .last-evicted) (c₀ .clock) (c₀ .last-evicted)
             behind =
-                subst (λ m. Le m (d .now .last-evicted) (c₀ .clock) (c₀ .last-evicted)) timestamp
-                (subst (λ q. Le (z .timestamp) q (c₀ .clock) (c₀ .last-evicted)) path
-                (subst (λ t. Le (z .timestamp) (path-of (z .rec)) (verifier-after t ds .clock) (verifier-after t ds .last-evicted)) who b))
+                subst (λ m. Upto-with m (d .now .last-evicted) (c₀ .clock) (c₀ .last-evicted)) timestamp
+                (subst (λ q. Upto-with (z .timestamp) q (c₀ .clock) (c₀ .last-evicted)) path
+                (subst (λ t. Upto-with (z .timestamp) (path-of (z .rec)) (verifier-after t ds .clock) (verifier-after t ds .last-evicted)) who b))
 
     go : (xs : List Element) → length xs ≤ 1 → All (Put (d .who) c₀ (d .now)) xs → evicted-twice (evicts-of ds) ≡ false → evicted-twice (xs ++ evicts-of ds) ≡ false
     go [] h p ih = ih
     go (x ∷ []) h p ih =
-        once-more-evicted x (evicts-of ds) (all-map (λ z. Le (z .timestamp) (path-of (z .rec)) (verifier-after (z .verifier) ds .clock) (verifier-after (z .verifier) ds .last-evicted)) (Apart x) (evicts-of ds) (different x (p .0)) (evicts-behind ds (v .2))) ih
+        once-more-evicted x (evicts-of ds) (all-map (λ z. Upto-with (z .timestamp) (path-of (z .rec)) (verifier-after (z .verifier) ds .clock) (verifier-after (z .verifier) ds .last-evicted)) (Apart x) (evicts-of ds) (different x (p .0)) (evicts-behind ds (v .2))) ih
     go (x ∷ (y ∷ xs)) h p ih = absurd (omega arith)
 
 pub evicted-once : Evicted-once
@@ -436,9 +436,9 @@ once-step t v o =
     by-ways t v (λ e s. Once s)
     (record {
       wrong = λ e. tt;
-      new-child = λ r q y a n e i. once-more _ _ (some-changed (path-of r) _ (v .store) ∙ ap nonempty n) (written _);
+      new-child = λ r q y a n e i. once-more _ _ (stores-updated (path-of r) _ (v .store) ∙ ap nonempty n) (written _);
       same-child = λ r q y a n e. once-more _ (v .store) (ap nonempty n) o;
-      new-node = λ r q y p h b a n e i d u. once-more _ _ (some-changed (path-of r) _ (v .store) ∙ ap nonempty n) (written _);
+      new-node = λ r q y p h b a n e i d u. once-more _ _ (stores-updated (path-of r) _ (v .store) ∙ ap nonempty n) (written _);
       adds-blum = λ r m j z n d. once-more _ (v .store) (ap nonempty n) o;
       evicts-merkle = λ p q x y h b k a n e. once-without p _ (written _);
       evicts-blum = λ p m x k n. once-without p (v .store) o;
@@ -450,7 +450,7 @@ once-step t v o =
     })
   where
     written : (r : Record) → stored-twice (updated r (v .store)) ≡ false
-    written r = once-changed r (v .store) ∙ o
+    written r = once-updated r (v .store) ∙ o
 
 once-after : (ds : List Replayed) → Replay ds → (t : ℕ) → stored-twice (verifier-after t ds .store) ≡ false
 unfolding stored-twice pick nonempty find

@@ -1,16 +1,14 @@
--- What is found among what is here, after a change.
-use mathlib.Core.Path.{_≡_, refl, sym, ap, ap₂, subst, _∙_, fun-ext}
+-- What is found in a store after a change.
+use mathlib.Core.Path.{_≡_, refl, sym, ap, ap₂, _∙_}
 use mathlib.Core.Logic.{_⊎_, inl, inr}
-use mathlib.Core.Bool.{Bool, true, false, not, _&&_, _||_}
-use mathlib.Core.List.{List, [], _∷_, _++_}
-use Prim.Native.Nat.{ℕ, zero, suc, _+_, _≤_, _<_}
-use lib.Dec.{ltb, leb, eqb}
-use Rattle.std.proofs.shelf.Tests.{false≢true, true≢false, both-ways, and-parts, and-from, eqb-true, eq-eqb, cases-bool, or-parts, or-from}
+use mathlib.Core.Bool.{Bool, true, false, _||_}
+use mathlib.Core.List.{List, [], _∷_}
+use Rattle.std.proofs.shelf.Tests.{true≢false, or-parts, or-from}
 use Rattle.model.specs.Records.{pick, same-bytes, Path, Record, path-of}
 use Rattle.model.specs.Verifier.{Stored, find, nonempty, without, updated}
 use Rattle.model.specs.Statements.{stored-twice}
 use Rattle.order.proofs.Lists.{picks, picks-not}
-use Rattle.order.proofs.Paths.{same-is, same-refl, is-same, not-same, same-or}
+use Rattle.order.proofs.Paths.{same-refl, is-same, not-same, same-or}
 
 pub find-at : (p : Path) (x : Stored) (xs : List Stored) → p ≡ path-of (x .rec) → find p (x ∷ xs) ≡ x ∷ []
 unfolding find
@@ -33,20 +31,20 @@ abbrev pub renewed : Record → List Stored → List Stored
 renewed r [] = []
 renewed r (x ∷ xs) = record { rec = r; by-merkle = x .by-merkle } ∷ []
 
-pub find-changed-at : (r : Record) (hs : List Stored) → find (path-of r) (updated r hs) ≡ renewed r (find (path-of r) hs)
+pub find-updated-at : (r : Record) (hs : List Stored) → find (path-of r) (updated r hs) ≡ renewed r (find (path-of r) hs)
 unfolding updated find pick
-find-changed-at r [] = refl
-find-changed-at r (x ∷ xs) = go (same-bytes (path-of r) (path-of (x .rec))) refl (find-changed-at r xs)
+find-updated-at r [] = refl
+find-updated-at r (x ∷ xs) = go (same-bytes (path-of r) (path-of (x .rec))) refl (find-updated-at r xs)
   where
     go : (b : Bool) → same-bytes (path-of r) (path-of (x .rec)) ≡ b → find (path-of r) (updated r xs) ≡ renewed r (find (path-of r) xs) →
         find (path-of r) (pick b (record { rec = r; by-merkle = x .by-merkle } ∷ xs) (x ∷ updated r xs)) ≡ renewed r (pick b (x ∷ []) (find (path-of r) xs))
     go true e ih = rw (same-refl (path-of r))
     go false e ih = rw (picks-not (same-bytes (path-of r) (path-of (x .rec))) (x ∷ []) (find (path-of r) (updated r xs)) e) ih
 
-pub find-changed-off : (p : Path) (r : Record) (hs : List Stored) → (p ≡ path-of r → ⊥) → find p (updated r hs) ≡ find p hs
+pub find-updated-off : (p : Path) (r : Record) (hs : List Stored) → (p ≡ path-of r → ⊥) → find p (updated r hs) ≡ find p hs
 unfolding updated find
-find-changed-off p r [] n = refl
-find-changed-off p r (x ∷ xs) n = go (same-or (path-of r) (path-of (x .rec))) (find-changed-off p r xs n)
+find-updated-off p r [] n = refl
+find-updated-off p r (x ∷ xs) n = go (same-or (path-of r) (path-of (x .rec))) (find-updated-off p r xs n)
   where
     y : Stored
     y = record { rec = r; by-merkle = x .by-merkle }
@@ -60,23 +58,23 @@ find-changed-off p r (x ∷ xs) n = go (same-or (path-of r) (path-of (x .rec))) 
         ap (find p) (picks-not (same-bytes (path-of r) (path-of (x .rec))) (y ∷ xs) (x ∷ updated r xs) (not-same (path-of r) (path-of (x .rec)) m))
         ∙ ap (λ f. pick (same-bytes p (path-of (x .rec))) (x ∷ []) f) ih
 
--- each path is here once
-pub some-changed : (p : Path) (r : Record) (hs : List Stored) → nonempty (find p (updated r hs)) ≡ nonempty (find p hs)
+-- each path is stored once
+pub stores-updated : (p : Path) (r : Record) (hs : List Stored) → nonempty (find p (updated r hs)) ≡ nonempty (find p hs)
 unfolding nonempty
-some-changed p r hs = go (same-or p (path-of r))
+stores-updated p r hs = go (same-or p (path-of r))
   where
     same : (xs : List Stored) → nonempty (renewed r xs) ≡ nonempty xs
     same [] = refl
     same (x ∷ xs) = refl
 
     go : (p ≡ path-of r) ⊎ (p ≡ path-of r → ⊥) → nonempty (find p (updated r hs)) ≡ nonempty (find p hs)
-    go (inl i) = rw (i, find-changed-at r hs) (same (find (path-of r) hs))
-    go (inr n) = rw (find-changed-off p r hs n)
+    go (inl i) = rw (i, find-updated-at r hs) (same (find (path-of r) hs))
+    go (inr n) = rw (find-updated-off p r hs n)
 
-pub once-changed : (r : Record) (hs : List Stored) → stored-twice (updated r hs) ≡ stored-twice hs
+pub once-updated : (r : Record) (hs : List Stored) → stored-twice (updated r hs) ≡ stored-twice hs
 unfolding updated stored-twice
-once-changed r [] = refl
-once-changed r (x ∷ xs) = go (same-or (path-of r) (path-of (x .rec))) (once-changed r xs)
+once-updated r [] = refl
+once-updated r (x ∷ xs) = go (same-or (path-of r) (path-of (x .rec))) (once-updated r xs)
   where
     y : Stored
     y = record { rec = r; by-merkle = x .by-merkle }
@@ -87,7 +85,7 @@ once-changed r (x ∷ xs) = go (same-or (path-of r) (path-of (x .rec))) (once-ch
         ∙ ap (λ p. nonempty (find p xs) || stored-twice xs) i
     go (inr m) ih =
         ap stored-twice (picks-not (same-bytes (path-of r) (path-of (x .rec))) (y ∷ xs) (x ∷ updated r xs) (not-same (path-of r) (path-of (x .rec)) m))
-        ∙ ap₂ (λ a b. a || b) (some-changed (path-of (x .rec)) r xs) ih
+        ∙ ap₂ (λ a b. a || b) (stores-updated (path-of (x .rec)) r xs) ih
 
 pub none-found : (xs : List Stored) → nonempty xs ≡ false → xs ≡ []
 unfolding nonempty

@@ -1,20 +1,19 @@
 -- What is certified: all verifiers are done with it, its sums agree, and nothing is added to it any more.
-use mathlib.Core.Path.{_≡_, refl, sym, ap, ap₂, subst, _∙_, fun-ext}
+use mathlib.Core.Path.{_≡_, refl, ap, subst, _∙_}
 use mathlib.Core.Logic.{_⊎_, inl, inr}
-use mathlib.Core.Bool.{Bool, true, false, not, _&&_, _||_}
-use mathlib.Core.List.{List, [], _∷_, _++_}
-use Prim.Native.Nat.{ℕ, zero, suc, _+_, _%_, _≤_, _<_}
+use mathlib.Core.Bool.{Bool, true, false, _&&_}
+use mathlib.Core.List.{List, [], _∷_}
+use Prim.Native.Nat.{ℕ, zero, suc, _≤_, _<_}
 use native.Mathlib.Omega.{arith}
-use lib.Dec.{ltb, leb, eqb}
+use lib.Dec.{ltb, eqb}
 use lib.ListN.{length}
-use Rattle.std.proofs.shelf.Tests.{false≢true, true≢false, and-parts, ltb-true, eqb-true, cases-eq, cases-lt}
+use Rattle.std.proofs.shelf.Tests.{and-parts, ltb-true, eqb-true, cases-eq, cases-lt}
 use Rattle.model.specs.Records.{pick, Record}
 use Rattle.model.specs.Verifier.{Entry, Verifier, goes, Element, verifier-step}
 use Rattle.model.specs.Monitor.{State, Limits, Event, logged, malformed, Sum, state, verifier-at, with-verifier, sum-at, with-sum, add-element, evict-element, add-elements, evict-elements, all-done, certify, after, refusal, stop, accepted, respond}
 use Rattle.order.proofs.Lists.{All, all-map}
 use Rattle.order.proofs.Log.{Looked-at, at-new, length-new, at-put, at-off, length-put, by-states}
-use Rattle.order.proofs.Clocks.{Le, le-moment, Came, Put, Went, Goes-well, well}
-use native.Mathlib.Nat.{zero-add}
+use Rattle.order.proofs.Clocks.{upto-clock, Came, Put, Went, Went-well, well}
 
 pub sum-off : (ss : List Sum) (i e : ℕ) (x : Sum) → (e ≡ i → ⊥) → sum-at (with-sum ss i x) e ≡ sum-at ss e
 unfolding sum-at with-sum
@@ -101,7 +100,7 @@ late l s S t tn v adds evicts w =
     puts x p =
         let a = S .ends t tn in
         let b = S .within-clock t tn in
-        let f = le-moment (v₀ .clock) (v₀ .last-evicted) (v .clock) (v .last-evicted) (w .onward) .0 in
+        let f = upto-clock (v₀ .clock) (v₀ .last-evicted) (v .clock) (v .last-evicted) (w .onward) .0 in
         let g = ap (λ m. m .epoch) (p .at-clock) in
         omega arith
 
@@ -121,7 +120,7 @@ settled-more l s t e c adds aw hashes S k i = record { many = length-put (s .ver
     c₀ = verifier-at (s .verifiers) t
 
     w : Went t c₀ c adds aw
-    w = subst (Goes-well t c₀) i (well t c₀ e)
+    w = subst (Went-well t c₀) i (well t c₀ e)
 
     cs : List Verifier
     cs = with-verifier (s .verifiers) t c

@@ -1,12 +1,12 @@
 -- Without sums: all calls so far are right in the log's own order, or two records or keys in it collide.
 use mathlib.Core.Path.{_≡_, refl, sym, ap, subst, _∙_}
 use mathlib.Core.Logic.{_⊎_, inl, inr}
-use mathlib.Core.Bool.{Bool, true, false}
+use mathlib.Core.Bool.{true}
 use mathlib.Core.List.{List, [], _∷_}
 use Prim.Native.Nat.{ℕ}
 use Rattle.std.proofs.shelf.Tests.{false≢true}
 use Rattle.model.specs.Verifier.{Entry, Verifier, Step, fails, goes, verifier-step}
-use Rattle.model.specs.Monitor.{Limits, Event, entry-code, state}
+use Rattle.model.specs.Monitor.{Limits, entry-code, state}
 use Rattle.model.specs.Order.{gets-right, Values-collide, Keys-collide, merkle-only, One-order-now, One-by-the-tree}
 use Rattle.order.proofs.Ways.{by-ways}
 use Rattle.order.proofs.Invariant.{Inv, Collide}

@@ -1,14 +1,14 @@
 -- The ways in which an entry is right: a case for each, with its conditions and with what it leaves. Whatever is to be shown of a step is shown case by case.
-use mathlib.Core.Path.{_≡_, refl, sym, ap, ap₂, subst, _∙_}
-use mathlib.Core.Bool.{Bool, true, false, not, _&&_, _||_}
+use mathlib.Core.Path.{_≡_, refl, ap, ap₂, _∙_}
+use mathlib.Core.Bool.{Bool, true, false, not, _&&_}
 use mathlib.Core.List.{List, [], _∷_}
 use Prim.Native.Nat.{ℕ, suc, _≤_, _<_}
 use lib.Dec.{ltb, leb, eqb}
 use lib.ListN.{length}
 use Rattle.std.proofs.shelf.Tests.{false≢true, and-parts, eqb-true, ltb-true, leb-true, not-true}
 use Rattle.std.specs.declared.option.Option.the-variants.{None, Some}
-use Rattle.model.specs.Records.{pick, Bytes, same-bytes, Path, key-path, below, side, Pointer, absent, present, child-on, with-child, Value, same-value, Record, data-record, node, path-of, is-data, children-of, is-initial, merkle-hash}
-use Rattle.model.specs.Verifier.{Timestamp, earlier-with, just-after, Entry, add-merkle, add-blum, evict-merkle, evict-blum, evict-blum-merkle, next-epoch, verify-epoch, get, set, Stored, Verifier, find, nonempty, stores, without, updated, with-pointer, has-merkle-child, Element, Step, fails, goes, goes-to, with-store, with-record, under-node, add-merkle-at, add-merkle-under, can-add-blum, advance-clock, add-blum-step, evict-merkle-at, evict-merkle-under, same-flag, can-evict-blum, evict-blum-step, evict-blum-merkle-at, evict-blum-merkle-under, next-epoch-step, verify-epoch-step, has-key, has-value, get-step, set-step, verifier-step}
+use Rattle.model.specs.Records.{Bytes, same-bytes, Path, key-path, below, side, Pointer, absent, present, child-on, with-child, Value, same-value, Record, data-record, node, path-of, is-data, children-of, is-initial, merkle-hash}
+use Rattle.model.specs.Verifier.{Timestamp, earlier-with, just-after, Entry, add-merkle, add-blum, evict-merkle, evict-blum, evict-blum-merkle, next-epoch, verify-epoch, get, set, Stored, Verifier, find, stores, without, updated, with-pointer, has-merkle-child, Element, Step, fails, goes, goes-to, with-store, with-record, under-node, add-merkle-at, add-merkle-under, advance-clock, evict-merkle-at, evict-merkle-under, same-flag, can-evict-blum, evict-blum-step, evict-blum-merkle-at, evict-blum-merkle-under, has-key, has-value, get-step, set-step, verifier-step}
 use Rattle.order.proofs.Lists.{pick-both}
 use Rattle.order.proofs.Stores.{none-found}
 use Rattle.order.proofs.Paths.{same-is}

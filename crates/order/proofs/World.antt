@@ -1,20 +1,19 @@
--- What is at each path that is in use, where it is, and what the places know of it.
-use mathlib.Core.Path.{_≡_, refl, sym, ap, ap₂, subst, _∙_, fun-ext}
+-- The world: the record at each path that is in use, where it is, and what the node above points at it with.
+use mathlib.Core.Path.{_≡_, refl, sym, ap, subst, _∙_}
 use mathlib.Core.Logic.{_⊎_, inl, inr}
-use mathlib.Core.Bool.{Bool, true, false, not, _&&_, _||_}
-use mathlib.Core.List.{List, [], _∷_, _++_}
-use Prim.Native.Nat.{ℕ, zero, suc, _+_, _≤_, _<_}
-use native.Mathlib.Omega.{arith}
-use lib.Dec.{ltb, leb, eqb}
-use Rattle.std.proofs.shelf.Tests.{false≢true, true≢false, both-ways, and-parts, and-from, eqb-true, eq-eqb, cases-bool}
+use mathlib.Core.Bool.{Bool, true, false}
+use mathlib.Core.List.{List, [], _∷_}
+use Prim.Native.Nat.{ℕ}
+use lib.Dec.{eqb}
+use Rattle.std.proofs.shelf.Tests.{false≢true}
 use Rattle.model.specs.Records.{pick, Path, below, node, Pointer, absent, present, Children, child-on, with-child, Record, data-record, merkle-bytes, hash-of}
 use Rattle.model.specs.Verifier.{Timestamp}
 use Rattle.model.specs.Order.{Member}
-use Rattle.order.proofs.Paths.{same-is, same-refl, is-same, not-same, same-or, below-longer, below-self, below-circle, below-trans, side-through, Way, one, under, over, ways, left-of, sd-through}
-use Rattle.order.proofs.Shape.{Form, free, leaf, fork, in-use, forks, arm, with-arm, Reaches, Head, Cover, Shape, shape-same, forks-use, arm-same, arm-other, same-side, insert, one-knows}
+use Rattle.order.proofs.Paths.{same-or, below-self, left-of}
+use Rattle.order.proofs.Shape.{Form, free, leaf, fork, in-use, forks, arm, with-arm, Cover, Shape, shape-same, same-side, insert, one-points}
 
 pub data Where : Type 0 where
-  at : ℕ → Bool → Where  -- at a checker, by the tree or by the sums
+  at : ℕ → Bool → Where  -- in a verifier's store, added by Merkle or by Blum
   away-merkle : Where
   away-blum : Timestamp → ℕ → Where
 
@@ -89,10 +88,10 @@ arm-form (spot (data-record k v) w) d = refl
 arm-form (spot (node p t) w) true = refl
 arm-form (spot (node p t) w) false = refl
 
-pub knows-forks : (s : Spot) (d : Bool) (p : Path) (h : ℕ) (b : Bool) → side-of s d ≡ present p h b → forks (form s) ≡ true
-knows-forks unused d p h b e = cc
-knows-forks (spot (data-record k v) w) d p h b e = cc
-knows-forks (spot (node q t) w) d p h b e = refl
+pub points-forks : (s : Spot) (d : Bool) (p : Path) (h : ℕ) (b : Bool) → side-of s d ≡ present p h b → forks (form s) ≡ true
+points-forks unused d p h b e = cc
+points-forks (spot (data-record k v) w) d p h b e = cc
+points-forks (spot (node q t) w) d p h b e = refl
 
 pub kind-use : (s : Spot) → (kind s ≡ no-kind → ⊥) → in-use (form s) ≡ true
 kind-use unused n = absurd (n refl)
@@ -113,23 +112,23 @@ pub tree-more : (H : List Record) (r : Record) (W : World) → Tree H W → Tree
 tree-more H r W T = record { shape = T .shape; ptr = λ q d p h b e. ptr-more H r (loc (W q)) h b (kind (W p)) (T .ptr q d p h b e) }
 
 module _ (H : List Record) (W : World) (T : Tree H W) where
-  -- of what a place knows
+  -- of what a node points at
   pub known : (q : Path) (d : Bool) (p : Path) (h : ℕ) (b : Bool) → side-of (W q) d ≡ present p h b → Cover (λ z. form (W z)) q d (p ∷ [])
-  known q d p h b e = rw (arm-form (W q) d ∙ ap targets e) at (T .shape q d (knows-forks (W q) d p h b e))
+  known q d p h b e = rw (arm-form (W q) d ∙ ap targets e) at (T .shape q d (points-forks (W q) d p h b e))
 
   pub unknown : (q : Path) (d : Bool) → forks (form (W q)) ≡ true → side-of (W q) d ≡ absent → Cover (λ z. form (W z)) q d []
   unknown q d u e = rw (arm-form (W q) d ∙ ap targets e) at (T .shape q d u)
 
   pub lone : (q z p : Path) (d e : Bool) (h i : ℕ) (b c : Bool) → side-of (W q) d ≡ present p h b → side-of (W z) e ≡ present p i c → (z ≡ q) × (e ≡ d)
   lone q z p d e h i b c x y =
-      one-knows (λ v. form (W v)) (T .shape) q z p d e [] [] (knows-forks (W q) d p h b x) (knows-forks (W z) e p i c y)
+      one-points (λ v. form (W v)) (T .shape) q z p d e [] [] (points-forks (W q) d p h b x) (points-forks (W z) e p i c y)
       (arm-form (W q) d ∙ ap targets x) (arm-form (W z) e ∙ ap targets y)
 
   -- what is pointed at is elsewhere
   pub not-self : (q : Path) (d : Bool) (p : Path) (h : ℕ) (b : Bool) → side-of (W q) d ≡ present p h b → p ≡ q → ⊥
   not-self q d p h b e i = below-self p (rw (← i) at (known q d p h b e .head .1))
 
--- a path moves, and one who knows it may know something else of it; nothing else changes
+-- a record moves, and the pointer at it may be written anew; nothing else changes
 pub repoint : (H G : List Record) (W V : World) (p : Path) → Tree H W →
     ((l : List ℕ) (h : ℕ) (b : Bool) (k : Kind) → Ptr H l h b k → Ptr G l h b k) →
     ((z : Path) → form (V z) ≡ form (W z)) →
@@ -149,18 +148,18 @@ repoint H G W V p T more same off into out rest =
         go (inr n) (inl j) = rw j (out d c h b n (rw j at e))
         go (inr n) (inr m) = rw (off q m .1, off c n .0) (more (loc (W q)) h b (kind (W c)) (T .ptr q d c h b (rest q d c h b m n e)))
 
--- on and with-side, by which side it is
-pub on-half : (t : Children) (d : ℕ) → child-on t d ≡ half t (eqb d 0)
+-- child-on and with-child, by which side it is
+pub child-on-half : (t : Children) (d : ℕ) → child-on t d ≡ half t (eqb d 0)
 unfolding pick
-on-half t d = go (eqb d 0)
+child-on-half t d = go (eqb d 0)
   where
     go : (b : Bool) → pick b (t .left) (t .right) ≡ half t b
     go true = refl
     go false = refl
 
-pub with-side-half : (t : Children) (d : ℕ) (s : Pointer) → with-child t d s ≡ with-half t (eqb d 0) s
+pub with-child-half : (t : Children) (d : ℕ) (s : Pointer) → with-child t d s ≡ with-half t (eqb d 0) s
 unfolding pick
-with-side-half t d s = go (eqb d 0)
+with-child-half t d s = go (eqb d 0)
   where
     go : (b : Bool) → pick b (record { left = s; right = t .right }) (record { left = t .left; right = s }) ≡ with-half t b s
     go true = refl
@@ -185,7 +184,7 @@ pub form-where : (r : Record) (w v : Where) → form (spot r w) ≡ form (spot r
 form-where (data-record k v) w u = refl
 form-where (node p t) w u = refl
 
--- a path comes into use below q, at the checker where q is
+-- a path comes into use below q, in the store where q is
 module _ (H : List Record) (W V : World) (t : ℕ) (q x : Path) (v : Children) (bt : Bool) (r : Record) (T : Tree H W) (bx : below x q ≡ true)
     (isq : W q ≡ spot (node q v) (at t bt))
     (between : (y : Path) → in-use (form (W y)) ≡ true → below y q ≡ true → left-of y q ≡ left-of x q → below y x ≡ true)

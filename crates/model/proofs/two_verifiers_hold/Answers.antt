@@ -1,12 +1,12 @@
 use mathlib.Core.Path.{_≡_, refl}
-use mathlib.Core.List.{List, [], _∷_}
+use mathlib.Core.List.{[], _∷_}
 use lib.ListN.{length}
 use Rattle.std.specs.declared.option.Option.the-variants.{None, Some}
 use Rattle.model.specs.Sha256.{sha256, and-bits, xor-bits, extend-schedule, rounds, be-words, compress}
-use Rattle.model.specs.Records.{key-path, no-children, data-record, node, pick, same-bytes, less-bytes, bits, bits-of-bytes, below, side, path-of, is-data, children-of, same-value, is-absent, is-initial, le-bytes, le-number, pointer-bytes, value-bytes, merkle-bytes, record-bytes}
-use Rattle.model.specs.Verifier.{add-merkle, add-blum, evict-merkle, evict-blum, evict-blum-merkle, verify-epoch, get, find, nonempty, without, updated, found-by-merkle, points-at-merkle, add-merkle-at, add-merkle-under, evict-merkle-at, evict-merkle-under, same-flag, evict-blum-step, evict-blum-merkle-at, evict-blum-merkle-under, has-key, has-value, get-step, set-step, verifier-step}
-use Rattle.model.specs.Monitor.{logged, refused, wrong, right, certified, new-verifiers, verifier-at, with-verifier, sum-at, with-sum, add-elements, evict-elements, all-done, certify, entry-code, are-bits, good-pointer, good-value, good-record, good-entry, epoch-named, refusal, place-of, by-step, performed, respond, state}
-use Rattle.model.specs.Order.{in-epochs-below, certified-calls}
+use Rattle.model.specs.Records.{data-record, pick, same-bytes, less-bytes, bits, bits-of-bytes, below, side, path-of, is-data, children-of, same-value, is-absent, is-initial, le-bytes, le-number, pointer-bytes, value-bytes, merkle-bytes, record-bytes}
+use Rattle.model.specs.Verifier.{add-merkle, add-blum, evict-merkle, verify-epoch, get, find, nonempty, without, updated, found-by-merkle, points-at-merkle, add-merkle-at, add-merkle-under, evict-merkle-at, evict-merkle-under, same-flag, evict-blum-step, evict-blum-merkle-at, evict-blum-merkle-under, has-key, has-value, get-step, set-step, verifier-step}
+use Rattle.model.specs.Monitor.{logged, wrong, right, certified, new-verifiers, verifier-at, with-verifier, sum-at, with-sum, add-elements, evict-elements, all-done, certify, entry-code, are-bits, good-pointer, good-value, good-record, good-entry, epoch-named, refusal, place-of, by-step, performed, respond, state}
+use Rattle.model.specs.Order.{in-epochs-below}
 use Rattle.model.specs.TwoVerifiers.{limits, b, d, x, y, above-both, at, one-key, two-keys, handed-over, given-back, one-done, said}
 use Rattle.model.proofs.two_verifiers_hold.Needs as need
 

@@ -1,22 +1,21 @@
--- Where each path is and what the keys have: all but the tree.
-use mathlib.Core.Path.{_≡_, refl, sym, ap, ap₂, subst, _∙_, fun-ext}
+-- Where each record is and what the keys have: all of the invariant but the tree.
+use mathlib.Core.Path.{_≡_, refl, sym, ap, ap₂, _∙_}
 use mathlib.Core.Logic.{_⊎_, inl, inr}
-use mathlib.Core.Bool.{Bool, true, false, not, _&&_, _||_}
-use mathlib.Core.List.{List, [], _∷_, _++_}
-use Prim.Native.Nat.{ℕ, zero, suc, _+_, _≤_, _<_}
+use mathlib.Core.Bool.{Bool, false}
+use mathlib.Core.List.{List, [], _∷_}
+use Prim.Native.Nat.{ℕ}
 use native.Mathlib.Omega.{arith}
-use lib.Dec.{ltb, leb, eqb}
-use lib.ListN.{length}
-use Rattle.std.proofs.shelf.Tests.{false≢true, true≢false, both-ways, and-parts, and-from, eqb-true, eq-eqb, ne-eqb, cases-bool, cases-eq}
-use Rattle.std.specs.declared.option.Option.the-variants.{None, Some}
+use lib.Dec.{eqb}
+use Rattle.std.proofs.shelf.Tests.{eq-eqb, ne-eqb, cases-eq}
+use Rattle.std.specs.declared.option.Option.the-variants.{None}
 use Rattle.model.specs.Records.{pick, Bytes, Path, key-path, node, Value, Record, data-record, path-of}
 use Rattle.model.specs.Verifier.{Stored, find, nonempty, without, updated, Element}
 use Rattle.model.specs.Monitor.{Call}
 use Rattle.model.specs.Order.{value-after}
 use Rattle.model.specs.Statements.{stored-twice}
-use Rattle.order.proofs.Paths.{same-is, same-refl, is-same, not-same, same-or}
+use Rattle.order.proofs.Paths.{same-or}
 use Rattle.order.proofs.Lists.{picks, picks-not}
-use Rattle.order.proofs.Stores.{find-at, find-off, find-path, renewed, find-changed-at, find-changed-off, once-changed, none-found, find-without-off, find-without-at, once-without, once-more}
+use Rattle.order.proofs.Stores.{find-at, find-off, renewed, find-updated-at, find-updated-off, once-updated, find-without-off, find-without-at, once-without, once-more}
 use Rattle.order.proofs.Shape.{upd, upd-at, upd-off}
 use Rattle.order.proofs.Bytes.{Fit-record}
 use Rattle.order.proofs.World.{Where, at, away-merkle, away-blum, Spot, unused, spot, World}
@@ -42,15 +41,15 @@ abbrev pub Has-value : Value → Bytes → Spot → Type 0
 Has-value has k unused = has ≡ None
 Has-value has k (spot r w) = Value-of has k r
 
-pub record Rest (hs : ℕ → List Stored) (bs : List Call) (P : Element → Type 0) (W : World) : Type 0 where
+pub record Placed (hs : ℕ → List Stored) (bs : List Call) (P : Element → Type 0) (W : World) : Type 0 where
   pub link : (t : ℕ) (p : Path) → find p (hs t) ≡ seen-by t (W p)
   pub once : (t : ℕ) → stored-twice (hs t) ≡ false
   pub fit : (p : Path) → Fit p (W p)
   pub value : (k : List ℕ) → Has-value (value-after bs k) k (W (key-path k))
   pub pend : (e : Element) → P e → W (path-of (e .rec)) ≡ spot (e .rec) (away-blum (e .timestamp) (e .verifier))
 
--- what is at one path changes, and with it what is here at one checker
-pub rest-at : (hs gs : ℕ → List Stored) (bs cs : List Call) (P Q : Element → Type 0) (W : World) (t : ℕ) (p : Path) (s : Spot) → Rest hs bs P W →
+-- what is at one path changes, and with it one verifier's store
+pub placed-at : (hs gs : ℕ → List Stored) (bs cs : List Call) (P Q : Element → Type 0) (W : World) (t : ℕ) (p : Path) (s : Spot) → Placed hs bs P W →
     ((u : ℕ) → (u ≡ t → ⊥) → gs u ≡ hs u) →
     ((u : ℕ) → (u ≡ t → ⊥) → seen-by u s ≡ seen-by u (W p)) →
     ((x : Path) → (x ≡ p → ⊥) → find x (gs t) ≡ find x (hs t)) →
@@ -60,8 +59,8 @@ pub rest-at : (hs gs : ℕ → List Stored) (bs cs : List Call) (P Q : Element �
     ((k : List ℕ) → key-path k ≡ p → Has-value (value-after cs k) k s) →
     ((k : List ℕ) → (key-path k ≡ p → ⊥) → value-after cs k ≡ value-after bs k) →
     ((e : Element) → Q e → (P e × (path-of (e .rec) ≡ p → ⊥)) ⊎ ((path-of (e .rec) ≡ p) × (s ≡ spot (e .rec) (away-blum (e .timestamp) (e .verifier))))) →
-    Rest gs cs Q (upd W p s)
-rest-at hs gs bs cs P Q W t p s R others elsewhere off here single fits val vals pends =
+    Placed gs cs Q (upd W p s)
+placed-at hs gs bs cs P Q W t p s R others elsewhere off here single fits val vals pends =
     record { link = links; once = onces; fit = fitting; value = values; pend = pending }
   where
     links : (u : ℕ) (x : Path) → find x (gs u) ≡ seen-by u (upd W p s x)
@@ -108,25 +107,25 @@ seen-other u t r b n = picks-not (eqb u t) (record { rec = r; by-merkle = b } �
 pub seen-here : (t : ℕ) (r : Record) (b : Bool) → seen-by t (spot r (at t b)) ≡ record { rec = r; by-merkle = b } ∷ []
 seen-here t r b = picks (eqb t t) (record { rec = r; by-merkle = b } ∷ []) [] (eq-eqb t t refl)
 
-module _ (hs gs : ℕ → List Stored) (bs : List Call) (P : Element → Type 0) (W : World) (t : ℕ) (R : Rest hs bs P W) (others : (u : ℕ) → (u ≡ t → ⊥) → gs u ≡ hs u) where
-  -- what is here changes
-  pub rest-changed : (cs : List Call) (q : Path) (o r : Record) (b : Bool) → W q ≡ spot o (at t b) → path-of r ≡ q → gs t ≡ updated r (hs t) → Fit-record r →
+module _ (hs gs : ℕ → List Stored) (bs : List Call) (P : Element → Type 0) (W : World) (t : ℕ) (R : Placed hs bs P W) (others : (u : ℕ) → (u ≡ t → ⊥) → gs u ≡ hs u) where
+  -- a record in a store changes
+  pub placed-updated : (cs : List Call) (q : Path) (o r : Record) (b : Bool) → W q ≡ spot o (at t b) → path-of r ≡ q → gs t ≡ updated r (hs t) → Fit-record r →
       ((k : List ℕ) → key-path k ≡ q → Value-of (value-after cs k) k r) →
       ((k : List ℕ) → (key-path k ≡ q → ⊥) → value-after cs k ≡ value-after bs k) →
-      Rest gs cs P (upd W q (spot r (at t b)))
-  rest-changed cs q o r b w i g f val vals =
-      rest-at hs gs bs cs P P W t q (spot r (at t b)) R others
+      Placed gs cs P (upd W q (spot r (at t b)))
+  placed-updated cs q o r b w i g f val vals =
+      placed-at hs gs bs cs P P W t q (spot r (at t b)) R others
       (λ u n. seen-other u t r b n ∙ sym (ap (seen-by u) w ∙ seen-other u t o b n))
-      (λ x n. ap (find x) g ∙ find-changed-off x r (hs t) (λ j. n (j ∙ i)))
+      (λ x n. ap (find x) g ∙ find-updated-off x r (hs t) (λ j. n (j ∙ i)))
       at-it
-      (ap stored-twice g ∙ (once-changed r (hs t) ∙ R .once t))
+      (ap stored-twice g ∙ (once-updated r (hs t) ∙ R .once t))
       (i, f) val vals pends
     where
       found : find (path-of r) (hs t) ≡ record { rec = o; by-merkle = b } ∷ []
       found = R .link t (path-of r) ∙ (ap (λ a. seen-by t (W a)) i ∙ (ap (seen-by t) w ∙ seen-here t o b))
 
       at-it : find q (gs t) ≡ seen-by t (spot r (at t b))
-      at-it = ap₂ find (sym i) g ∙ (find-changed-at r (hs t) ∙ (ap (renewed r) found ∙ sym (seen-here t r b)))
+      at-it = ap₂ find (sym i) g ∙ (find-updated-at r (hs t) ∙ (ap (renewed r) found ∙ sym (seen-here t r b)))
 
       pends : (e : Element) → P e → (P e × (path-of (e .rec) ≡ q → ⊥)) ⊎ ((path-of (e .rec) ≡ q) × (spot r (at t b) ≡ spot (e .rec) (away-blum (e .timestamp) (e .verifier))))
       pends e p = inl (p, λ j. no j (R .pend e p))
@@ -136,14 +135,14 @@ module _ (hs gs : ℕ → List Stored) (bs : List Call) (P : Element → Type 0)
               let k : spot o (at t b) ≡ spot (e .rec) (away-blum (e .timestamp) (e .verifier)) = sym w ∙ (ap W (sym j) ∙ h) in
               let z : _≡_ {A = ℕ} 0 1 = cc in omega arith
 
-  -- something comes here
-  pub rest-come : (Q : Element → Type 0) (x : Path) (r : Record) (b : Bool) → ((u : ℕ) → seen-by u (W x) ≡ []) → path-of r ≡ x → gs t ≡ record { rec = r; by-merkle = b } ∷ hs t → Fit-record r →
+  -- a record comes into a store
+  pub placed-added : (Q : Element → Type 0) (x : Path) (r : Record) (b : Bool) → ((u : ℕ) → seen-by u (W x) ≡ []) → path-of r ≡ x → gs t ≡ record { rec = r; by-merkle = b } ∷ hs t → Fit-record r →
       ((k : List ℕ) → key-path k ≡ x → Value-of (value-after bs k) k r) →
       ((e : Element) → Q e → P e × (path-of (e .rec) ≡ x → ⊥)) →
-      Rest gs bs Q (upd W x (spot r (at t b)))
+      Placed gs bs Q (upd W x (spot r (at t b)))
   unfolding nonempty
-  rest-come Q x r b w i g f val pends =
-      rest-at hs gs bs bs P Q W t x (spot r (at t b)) R others
+  placed-added Q x r b w i g f val pends =
+      placed-at hs gs bs bs P Q W t x (spot r (at t b)) R others
       (λ u n. seen-other u t r b n ∙ sym (w u))
       (λ y n. ap (find y) g ∙ find-off y (record { rec = r; by-merkle = b }) (hs t) (λ j. n (j ∙ i)))
       (ap (find x) g ∙ (find-at x (record { rec = r; by-merkle = b }) (hs t) (sym i) ∙ sym (seen-here t r b)))
@@ -153,12 +152,12 @@ module _ (hs gs : ℕ → List Stored) (bs : List Call) (P : Element → Type 0)
       none : nonempty (find (path-of r) (hs t)) ≡ false
       none = ap nonempty (R .link t (path-of r) ∙ (ap (λ a. seen-by t (W a)) i ∙ w t))
 
-  -- something goes away
-  pub rest-go : (Q : Element → Type 0) (p : Path) (r : Record) (b : Bool) (v : Where) → W p ≡ spot r (at t b) → ((u : ℕ) → seen-by u (spot r v) ≡ []) → gs t ≡ without p (hs t) →
+  -- a record leaves a store
+  pub placed-evicted : (Q : Element → Type 0) (p : Path) (r : Record) (b : Bool) (v : Where) → W p ≡ spot r (at t b) → ((u : ℕ) → seen-by u (spot r v) ≡ []) → gs t ≡ without p (hs t) →
       ((e : Element) → Q e → (P e × (path-of (e .rec) ≡ p → ⊥)) ⊎ ((path-of (e .rec) ≡ p) × (spot r v ≡ spot (e .rec) (away-blum (e .timestamp) (e .verifier))))) →
-      Rest gs bs Q (upd W p (spot r v))
-  rest-go Q p r b v w away g pends =
-      rest-at hs gs bs bs P Q W t p (spot r v) R others
+      Placed gs bs Q (upd W p (spot r v))
+  placed-evicted Q p r b v w away g pends =
+      placed-at hs gs bs bs P Q W t p (spot r v) R others
       (λ u n. away u ∙ sym (ap (seen-by u) w ∙ seen-other u t r b n))
       (λ y n. ap (find y) g ∙ find-without-off y p (hs t) n)
       (ap (find p) g ∙ (find-without-at p (hs t) (R .once t) ∙ sym (away t)))
