@@ -8,3 +8,4 @@ pub mod Readable
 pub mod Statements
 pub mod Program
 pub mod TwoVerifiers
+pub mod Wire

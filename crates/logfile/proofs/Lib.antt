@@ -1,0 +1,4 @@
+-- Lemmas of this crate.
+mod Digits
+mod ReadBack
+mod ReadOnly

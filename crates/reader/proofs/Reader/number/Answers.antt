@@ -1,0 +1,10 @@
+use Rattle.model.specs.Wire.{reads-number}
+use Rattle.reader.proofs.Reader.number.Needs as need
+
+pub returns-in-rest : need.returns-in-rest
+unfolding reads-number
+returns-in-rest c = rw (c .in-rest .ensures tt .reads)
+
+pub returns : need.returns
+unfolding reads-number
+returns c = rw (c .in-Some .ensures tt .reads, c .word .ensures)

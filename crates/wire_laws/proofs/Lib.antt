@@ -1,0 +1,9 @@
+pub mod Format
+pub mod Numbers
+pub mod Fields
+pub mod Records
+pub mod Fronts
+pub mod Events
+pub mod Longest
+pub mod Answers
+pub mod Parts
