@@ -1,0 +1,7 @@
+pub mod Bits
+pub mod Loading
+pub mod Schedule
+pub mod Lanes
+pub mod Rounds
+pub mod Padding
+pub mod Output

@@ -1,0 +1,8 @@
+use native.Mathlib.Omega.{arith}
+use Rattle.sha256.specs.Parts.{ch}
+use Rattle.sha256.proofs.Bits.{ch-is}
+use Rattle.sha256.proofs.choose.Needs as need
+
+pub returns : need.returns
+unfolding ch
+returns c = ch-is (c .args .x) (c .args .y) (c .args .z) (omega arith) (omega arith) (omega arith)
