@@ -7,9 +7,8 @@ use native.Mathlib.Omega.{arith}
 use lib.Dec.{eqb}
 use Rattle.std.specs.declared.option.Option.the-variants.{None, Some}
 use Rattle.std.proofs.shelf.Tests.{eqb-true, and-parts, and-from}
-use Rattle.model.specs.Records.{pick, same-bytes, Pointer, absent, present, Value, Record, data-record, node, le-bytes, sized-bytes, value-bytes, pointer-bytes, merkle-bytes, record-bytes}
+use Rattle.model.specs.Records.{pick, Pointer, absent, present, Value, Record, data-record, node, le-bytes, sized-bytes, value-bytes, pointer-bytes, merkle-bytes, record-bytes}
 use Rattle.model.specs.Readable.{readable-bytes, readable-value, readable-pointer, readable-record}
-use Rattle.model.specs.Statements.{Bytes-determine}
 use Rattle.model.specs.Wire.{reads-value, reads-pointer, reads-record}
 use Rattle.wire_laws.proofs.Format.{Lawful, like, End, end, Seq, seq, Either, choose}
 use Rattle.wire_laws.proofs.Numbers.{One, just-law}
@@ -144,22 +143,3 @@ record-law =
           };
           same = o .same;
         }
-
-same-lists : (xs ys : List ℕ) → same-bytes xs ys ≡ true → xs ≡ ys
-unfolding same-bytes
-same-lists [] [] h = refl
-same-lists [] (y ∷ ys) h = absurd (let z : _≡_ {A = ℕ} 0 1 = cc in omega arith)
-same-lists (x ∷ xs) [] h = absurd (let z : _≡_ {A = ℕ} 0 1 = cc in omega arith)
-same-lists (x ∷ xs) (y ∷ ys) h =
-    let p = and-parts (eqb x y) (same-bytes xs ys) h in
-    let a = eqb-true x y (p .0) in
-    let b = same-lists xs ys (p .1) in
-    cc
-
-pub bytes-determine : Bytes-determine
-unfolding Bytes-determine
-bytes-determine r q f g h =
-    let e = same-lists (record-bytes r) (record-bytes q) h in
-    let a = record-law .round r (record-bytes r) [] (record { ok = f; same = refl }) in
-    let b = record-law .round q (record-bytes q) [] (record { ok = g; same = refl }) in
-    cc

@@ -1,5 +1,4 @@
-// The laws of events and answers as bytes, proved: see specs/Wire.antt and Statements.antt of crate `model`.
-ghost use Rattle.model.specs.Statements.{Bytes-determine};
+// The laws of events and answers as bytes, proved: see specs/Wire.antt of crate `model`.
 ghost use Rattle.model.specs.Wire.{Events-read-back, Events-read-exactly, Malformed-there, First-bytes-tell, Answers-read-back, Answers-read-exactly};
 
 // Every readable event is read back as it was written.
@@ -40,13 +39,6 @@ pub fn answers_read_back() -> u8
 // Bytes that read as an answer are that answer's, and it is readable.
 pub fn answers_read_exactly() -> u8
     ensures { λ _. ⌜ Answers-read-exactly ⌝ }
-{
-    0
-}
-
-// Records with the same bytes are the same.
-pub fn bytes_determine() -> u8
-    ensures { λ _. ⌜ Bytes-determine ⌝ }
 {
     0
 }

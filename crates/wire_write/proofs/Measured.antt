@@ -118,7 +118,7 @@ timestamp-is m =
     rw (number-is (m .epoch), number-is (m .counter), length-append (le-bytes 8 (m .epoch)) (le-bytes 8 (m .counter)))
     (both (fits-64 (m .epoch)) (fits-64 (m .counter)) (length (le-bytes 8 (m .epoch))) (length (le-bytes 8 (m .counter))) (λ m n. m + n))
 
--- two fields and three, one after the other
+-- two fields, one after the other
 pair-is : (b c : Bool) (xs ys : Bytes) → after-len (measured b (length xs)) (λ m. after-len (measured c (length ys)) (λ n. Some (m + n))) ≡ measured (b && c) (length (xs ++ ys))
 pair-is b c xs ys = both b c (length xs) (length ys) (λ m n. m + n) ∙ ap (measured (b && c)) (sym (length-append xs ys))
 
