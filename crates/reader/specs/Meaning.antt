@@ -6,14 +6,13 @@ use denote.Ref.{RefT}
 use Rattle.std.specs.declared.option.Option.{Option}
 use Rattle.std.specs.declared.option.Option.the-variants.{Some, None}
 use Rattle.model.specs.Records as m
-use Rattle.model.specs.Verifier as w
 use Rattle.model.specs.Wire.{Got, got, stop}
 use Rattle.reader.specs.declared.Pointer.{Pointer}
 use Rattle.reader.specs.declared.Pointer.the-variants.{Absent, Present}
 use Rattle.reader.specs.declared.Contents.{Contents}
 use Rattle.reader.specs.declared.Contents.the-variants.{Value, Children}
 use Rattle.reader.specs.declared.Record.{Record}
-use Rattle.reader.specs.declared.Timestamp.{Timestamp}
+pub use Rattle.path.specs.Times.{timestamp-of}
 
 -- what was read, from what code returned and the bytes that it left
 abbrev pub out : {A : Type 0} → Option A → List ℕ → Got A
@@ -43,6 +42,3 @@ record-of r = contents-of (r .name .now) (r .contents)
 -- the part of the input that it hands out is what its Merkle hash is taken over
 abbrev pub Merkle-part : Record → Type 0
 Merkle-part r = r .«merkle_bytes» .now ≡ m.merkle-bytes (record-of r)
-
-abbrev pub timestamp-of : Timestamp → w.Timestamp
-timestamp-of t = record { epoch = t .epoch; counter = t .counter }

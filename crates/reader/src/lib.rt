@@ -11,6 +11,8 @@ ghost use Rattle.model.specs.Readable.{all-below};
 ghost use Rattle.model.specs.Wire.{reads-chunk, reads-number, reads-tag, reads-just, reads-sized, reads-value, reads-pointer, reads-contents, reads-record, reads-timestamp};
 ghost use Rattle.reader.specs.Meaning.{out, hash-number, value-of, pointer-of, contents-of, record-of, timestamp-of, Merkle-part};
 
+pub use path::Timestamp;
+
 // The bytes that are yet to be read. A reader that finds nothing returns `None` and stays at the first byte that is wrong.
 #[derive(Drop)]
 pub struct Reader<'a> {
@@ -44,12 +46,6 @@ pub struct Record<'a> {
     pub name: &'a [u8],
     pub contents: Contents<'a>,
     pub merkle_bytes: &'a [u8],
-}
-
-#[derive(Clone, Copy)]
-pub struct Timestamp {
-    pub epoch: u64,
-    pub counter: u64,
 }
 
 // How many bytes a length, a number and a hash have.
