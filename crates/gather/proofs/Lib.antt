@@ -1,0 +1,4 @@
+pub mod Joined
+pub mod Eights
+pub mod Pointers
+pub mod Recorded

@@ -1,0 +1,4 @@
+pub mod Members
+pub mod Held
+pub mod Edits
+pub mod Opened
