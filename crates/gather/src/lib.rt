@@ -9,6 +9,10 @@ ghost use Rattle.slot.specs.Layout.{slot-words, bytes-in, pointer-in, rec-in, P
 ghost use Rattle.gather.specs.Wrote.{Wrote};
 use record::bits_into;
 
+mod element;
+
+pub use element::element_out;
+
 // The most bytes that a record has, without its key or path and with it.
 pub const MERKLE_BYTES: usize = 1028;
 

@@ -10,7 +10,6 @@ ghost use Rattle.model.specs.Records.{le-number};
 ghost use Rattle.model.specs.Readable.{all-below};
 ghost use Rattle.model.specs.Wire.{reads-chunk, reads-number, reads-tag, reads-just, reads-sized, reads-value, reads-pointer, reads-contents, reads-record, reads-timestamp};
 ghost use Rattle.reader.specs.Meaning.{out, hash-number, value-of, pointer-of, contents-of, record-of, timestamp-of, Merkle-part};
-
 pub use path::Timestamp;
 
 // The bytes that are yet to be read. A reader that finds nothing returns `None` and stays at the first byte that is wrong.
