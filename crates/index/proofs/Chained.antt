@@ -95,3 +95,13 @@ chain-passed n m h i xs ys k c e f = passed-all n m h i xs ys k (drop k xs) refl
 pub chain-more : (n : ℕ) (m : List ℕ) (h i : ℕ) (ws ys : List ℕ) → Chain n m h (ws ++ i ∷ ys) → h ≡ 0 → ⊥
 chain-more n m h i [] ys c z = let a = first-link n m h i ys c in omega arith
 chain-more n m h i (w ∷ ws) ys c z = let a = first-link n m h w (ws ++ i ∷ ys) c in omega arith
+
+-- from a link on there is one chain
+pub chain-unique : (n : ℕ) (m : List ℕ) (h : ℕ) (xs ys : List ℕ) → Chain n m h xs → Chain n m h ys → xs ≡ ys
+unfolding Chain
+chain-unique n m h [] [] c d = refl
+chain-unique n m h [] (y ∷ ys) c d = let e : h ≡ 0 = c in let f = d .0 in absurd (omega arith)
+chain-unique n m h (x ∷ xs) [] c d = let e : h ≡ 0 = d in let f = c .0 in absurd (omega arith)
+chain-unique n m h (x ∷ xs) (y ∷ ys) c d =
+    let e : y ≡ x = omega (arith, c .0, d .0) in
+    ap (λ (k : ℕ). k ∷ xs) (sym e) ∙ ap (λ (l : List ℕ). y ∷ l) (chain-unique n m (getD m (n + x) 0) xs ys (c .2) (subst (λ (k : ℕ). Chain n m (getD m (n + k) 0) ys) e (d .2)))

@@ -42,6 +42,25 @@ pub fn find_in(index: &[u64], slots: &[u64], n: usize, b: usize, len: usize, bit
     at
 }
 
+// How many slots bucket `b` has.
+pub fn count_in(index: &[u64], n: usize, b: usize) -> usize
+    requires bucket { ⌜ b < n ⌝ }
+    requires index { ⌜ 2 * n ≤ length (now index) ⌝ }
+    ensures most { λ r. ⌜ r ≤ n ⌝ }
+    ensures count { λ r. ⌜ ((is : List ℕ) → Chain n (now (index .entry)) (getD (now (index .entry)) b 0) is → length is ≤ n → r ≡ length is) ⌝ }
+{
+    let mut link = index[b] as usize;
+    let mut count = 0;
+    'chain: for k in 0..n {
+        if link == 0 || link > n {
+            break 'chain;
+        }
+        link = index[n + link - 1] as usize;
+        count = k + 1;
+    }
+    count
+}
+
 // Slot `i` in front of bucket `b`.
 fn push(index: &mut [u64], n: usize, b: usize, i: usize)
     requires bucket { ⌜ b < n ⌝ }

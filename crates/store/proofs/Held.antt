@@ -253,7 +253,7 @@ module _ (n salt : ℕ) (m : List ℕ) (cs : List (List ℕ)) (ss : List Stored)
   length-1 : length (in1 n cs ys) ≡ n
   length-1 = length-set cs (n - 1) ([] ++ ys) ∙ x .index .size
 
-  at-2 : getD (in2 n cs ys (slot-home n salt w) i) (slot-home n salt w) [] ≡ i ∷ getD cs (slot-home n salt w) []
+  pub at-2 : getD (in2 n cs ys (slot-home n salt w) i) (slot-home n salt w) [] ≡ i ∷ getD cs (slot-home n salt w) []
   at-2 =
       let l = length-1 in
       let b = b-in in
@@ -272,7 +272,7 @@ module _ (n salt : ℕ) (m : List ℕ) (cs : List (List ℕ)) (ss : List Stored)
       (λ (ne : c ≡ slot-home n salt w → ⊥). inr (subst (λ (l : List ℕ). has j l ≡ true) (at-3 c lc ne) t))
       (cases-eq c (slot-home n salt w))
 
-  packing-w : Packing (getD w 2 0) (part 3 4 w)
+  pub packing-w : Packing (getD w 2 0) (part 3 4 w)
   packing-w = record { four = simp (length-take, length-drop) (omega (arith, slot .shaped .size)); packs = slot .shaped .packs; fit = fit }
 
   module _ (m′ : List ℕ) (written : slot-at n m′ i ≡ w) (others : (j : ℕ) → (j ≡ i → ⊥) → slot-at n m′ j ≡ slot-at n m j) where

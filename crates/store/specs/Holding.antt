@@ -74,6 +74,16 @@ pub record Walked (n salt : ℕ) (m : List ℕ) (k : ℕ) (ws : List ℕ) (r : �
   pub fit : Fit m
   pub ends : (is : List ℕ) → Chain n (part 0 (2 * n) m) (getD (part 0 (2 * n) m) (home n salt k ws) 0) is → length is ≤ n → r ≡ getD is (position (λ i. says k ws (slot-at n m i)) is) n
 
+-- slot r is the one in use for the path in its words
+abbrev pub In-use : ℕ → ℕ → List ℕ → ℕ → Type 0
+In-use n salt m r = Walked n salt m (getD (slot-at n m r) 2 0) (part 3 4 (slot-at n m r)) r
+
+-- x was added to ss, and is in slot r
+pub record Added (n salt : ℕ) (m : List ℕ) (ss : List Stored) (x : Stored) (r : ℕ) : Type 0 where
+  pub holds : Holds n salt m (x ∷ ss)
+  pub in-use : In-use n salt m r
+  pub stored : stored-at n m r ≡ x
+
 -- ---- at first
 
 -- the slots below i, the last first

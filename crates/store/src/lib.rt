@@ -14,8 +14,9 @@ ghost use Rattle.model.specs.Verifier.{Stored, without, updated};
 ghost use Rattle.path.specs.Packs.{path-in, Packs, Fit};
 ghost use Rattle.slot.specs.Layout.{number-in, slot-key, Slot};
 ghost use Rattle.slot.specs.Meant.{child-meant};
-ghost use Rattle.store.specs.Holding.{halves, home, slot-at, stored-at, Holds, Found, Walked};
+ghost use Rattle.store.specs.Holding.{halves, home, slot-at, stored-at, Holds, Found, Walked, Added};
 use index::add;
+use index::count_in;
 use index::find_in;
 use index::take_out;
 use path::Path;
@@ -105,12 +106,21 @@ pub fn is_full(mem: &[u64], n: usize) -> bool
     first_free(mem, n) >= n
 }
 
+// How many records are stored.
+pub fn count(mem: &[u64], n: usize) -> usize
+    requires few { ⌜ 2 ≤ n ⌝ }
+    requires room { ⌜ length (now mem) ≡ 192 * n ⌝ }
+    ensures { λ r. ⌜ ((salt : ℕ) (xs : List Stored) → Holds n salt (now (mem .entry)) xs → r ≡ length xs) ⌝ }
+{
+    n - count_in(&mem[0..2 * n], n, n - 1)
+}
+
 // The first free slot, with a record written into it, goes into the chain of its path.
 fn link_first(mem: &mut [u64], n: usize, salt: u64, i: usize)
     requires few { ⌜ 2 ≤ n ⌝ }
     requires room { ⌜ length (now mem) ≡ 192 * n ⌝ }
     requires within { ⌜ i < n ⌝ }
-    ensures { λ _. ⌜ ((xs : List Stored) → Holds n salt (now (mem .entry)) xs → getD (now (mem .entry)) (n - 1) 0 ≡ i + 1 → Slot (slot-at n (now (mem .entry)) i) → Holds n salt (now (mem .exit)) (stored-at n (now (mem .entry)) i ∷ xs)) ⌝ }
+    ensures { λ _. ⌜ ((xs : List Stored) → Holds n salt (now (mem .entry)) xs → getD (now (mem .entry)) (n - 1) 0 ≡ i + 1 → Slot (slot-at n (now (mem .entry)) i) → Added n salt (now (mem .exit)) xs (stored-at n (now (mem .entry)) i) i) ⌝ }
 {
     let a = 2 * n + i * SLOT_WORDS;
     let b = home_of(n, salt, mem[a + 2] as usize, &mem[a + 3..a + 7]);
@@ -132,7 +142,7 @@ pub fn add_node(
     requires room { ⌜ length (now mem) ≡ 192 * n ⌝ }
     ensures same { λ r. ⌜ (n ≤ r → now (mem .exit) ≡ now (mem .entry)) ⌝ }
     ensures full { λ r. ⌜ ((xs : List Stored) → Holds n salt (now (mem .entry)) xs → leb n r ≡ leb n (length xs)) ⌝ }
-    ensures stored { λ r. ⌜ ((xs : List Stored) → Holds n salt (now (mem .entry)) xs → r < n → Holds n salt (now (mem .exit)) (record { rec = node (path-in (now (path .entry) .len) (now (path .entry) .bits)) (record { left = child-meant (now (left .entry)); right = child-meant (now (right .entry)) }); by-merkle = «by_merkle» } ∷ xs)) ⌝ }
+    ensures stored { λ r. ⌜ ((xs : List Stored) → Holds n salt (now (mem .entry)) xs → r < n → Added n salt (now (mem .exit)) xs (record { rec = node (path-in (now (path .entry) .len) (now (path .entry) .bits)) (record { left = child-meant (now (left .entry)); right = child-meant (now (right .entry)) }); by-merkle = «by_merkle» }) r) ⌝ }
 {
     let i = first_free(mem, n);
     if i >= n {
@@ -160,7 +170,7 @@ pub fn add_data(
     requires value { ⌜ found value (λ v. length (v .now) ≤ 1024) ⌝ }
     ensures same { λ r. ⌜ (n ≤ r → now (mem .exit) ≡ now (mem .entry)) ⌝ }
     ensures full { λ r. ⌜ ((xs : List Stored) → Holds n salt (now (mem .entry)) xs → leb n r ≡ leb n (length xs)) ⌝ }
-    ensures stored { λ r. ⌜ ((xs : List Stored) → Holds n salt (now (mem .entry)) xs → path-in (now (path .entry) .len) (now (path .entry) .bits) ≡ key-path (now (key .entry)) → r < n → Holds n salt (now (mem .exit)) (record { rec = data-record (now (key .entry)) (mapped (λ v. v .now) (value .entry)); by-merkle = «by_merkle» } ∷ xs)) ⌝ }
+    ensures stored { λ r. ⌜ ((xs : List Stored) → Holds n salt (now (mem .entry)) xs → path-in (now (path .entry) .len) (now (path .entry) .bits) ≡ key-path (now (key .entry)) → r < n → Added n salt (now (mem .exit)) xs (record { rec = data-record (now (key .entry)) (mapped (λ v. v .now) (value .entry)); by-merkle = «by_merkle» }) r) ⌝ }
 {
     let i = first_free(mem, n);
     if i >= n {

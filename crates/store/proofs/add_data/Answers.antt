@@ -10,7 +10,7 @@ use Rattle.model.specs.Records.{data-record}
 use Rattle.slot.specs.Parts.{part, put}
 use Rattle.slot.specs.Layout.{stored-in, Slot}
 use Rattle.slot.proofs.Parted.{length-part}
-use Rattle.store.specs.Holding.{slot-at, stored-at, Holds}
+use Rattle.store.specs.Holding.{slot-at, stored-at, Holds, Added}
 use Rattle.store.proofs.Held.{holds-free}
 use Rattle.store.proofs.add_data.Needs as need
 
@@ -34,7 +34,7 @@ returns c =
           let m1 = put a (a + 190 - a) m w in
           let at : slot-at n m1 i ≡ w = ap (λ (l : List ℕ). slot-at n l i) e ∙ f .2 in
           let new : stored-at n m1 i ≡ record { rec = data-record (c .args .key .now) (mapped (λ v. v .now) (c .args .value)); by-merkle = c .args .by-merkle } = ap stored-in at ∙ c .write-data .ensures p .1 in
-          subst (λ (x : Stored). Holds n salt (c .link-first .last .mem) (x ∷ ss)) new
+          subst (λ (x : Stored). Added n salt (c .link-first .last .mem) ss x i) new
           (c .link-first .ensures ss (subst (λ (l : List ℕ). Holds n salt l ss) (sym e) (f .0)) (ap (λ (l : List ℕ). getD l (n - 1) 0) e ∙ f .1) (subst Slot (sym at) (c .write-data .ensures p .0)));
     }
 

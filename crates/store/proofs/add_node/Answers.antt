@@ -11,7 +11,7 @@ use Rattle.slot.specs.Meant.{child-meant}
 use Rattle.slot.specs.Parts.{part, put}
 use Rattle.slot.specs.Layout.{stored-in, Slot}
 use Rattle.slot.proofs.Parted.{length-part}
-use Rattle.store.specs.Holding.{slot-at, stored-at, Holds}
+use Rattle.store.specs.Holding.{slot-at, stored-at, Holds, Added}
 use Rattle.store.proofs.Held.{holds-free}
 use Rattle.store.proofs.add_node.Needs as need
 
@@ -35,7 +35,7 @@ returns c =
           let m1 = put a (a + 190 - a) m w in
           let at : slot-at n m1 i ≡ w = ap (λ (l : List ℕ). slot-at n l i) e ∙ f .2 in
           let new : stored-at n m1 i ≡ record { rec = node (path-in (c .args .path .now .len) (c .args .path .now .bits)) (record { left = child-meant (c .args .left .now); right = child-meant (c .args .right .now) }); by-merkle = c .args .by-merkle } = ap stored-in at ∙ c .write-node .ensures .stored in
-          subst (λ (x : Stored). Holds n salt (c .link-first .last .mem) (x ∷ ss)) new
+          subst (λ (x : Stored). Added n salt (c .link-first .last .mem) ss x i) new
           (c .link-first .ensures ss (subst (λ (l : List ℕ). Holds n salt l ss) (sym e) (f .0)) (ap (λ (l : List ℕ). getD l (n - 1) 0) e ∙ f .1) (subst Slot (sym at) (c .write-node .ensures .slot)));
     }
 
