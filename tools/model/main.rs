@@ -1,4 +1,4 @@
-//! Answers the events of a log by the rules written plainly: `hundzelo-model check LOG [--key FILE] [--quiet]`.
+//! Answers the events of a log by the rules written plainly: `hundzelo-model check LOG`.
 
 mod log;
 mod monitor;
@@ -8,33 +8,43 @@ mod verifier;
 mod wire;
 
 use log::Log;
-use monitor::{Answer, Monitor};
+use monitor::{Answer, Monitor, Stage};
 use std::fs::{self, File};
 use std::io::{self, BufReader, BufWriter, Read, Write};
 use std::process::ExitCode;
 
-const USAGE: &str = "usage: hundzelo-model check LOG [--key FILE] [--quiet]";
+const USAGE: &str = "\
+usage: hundzelo-model check LOG [options]
+  --key FILE       the secret key of the sums, 32 bytes (otherwise drawn afresh)
+  --quiet          no answers, only the summary
+  --entries CODES  the codes of the entries that are done, such as 0278 (all)";
 
 struct Options {
     log: String,
     key: Option<String>,
     quiet: bool,
+    stage: Stage,
 }
 
 fn parse(mut words: impl Iterator<Item = String>) -> Option<Options> {
     if words.next()? != "check" {
         return None;
     }
-    let (mut log, mut key, mut quiet) = (None, None, false);
+    let (mut log, mut key, mut quiet, mut stage) = (None, None, false, Stage::all());
     while let Some(word) = words.next() {
         match word.as_str() {
             "--key" => key = Some(words.next()?),
             "--quiet" => quiet = true,
+            "--entries" => stage = Stage(words.next()?.chars().map(code).collect::<Option<_>>()?),
             _ if log.is_none() => log = Some(word),
             _ => return None,
         }
     }
-    Some(Options { log: log?, key, quiet })
+    Some(Options { log: log?, key, quiet, stage })
+}
+
+fn code(digit: char) -> Option<u8> {
+    digit.to_digit(9).map(|code| code as u8)
 }
 
 /// From its file, or drawn afresh.
@@ -87,7 +97,7 @@ fn check(options: &Options) -> Result<Summary, String> {
     let named = |e: io::Error| format!("{}: {e}", options.log);
     let file = File::open(&options.log).map_err(named)?;
     let mut log = Log::open(BufReader::new(file)).map_err(named)?;
-    let mut monitor = Monitor::new(log.limits, secret);
+    let mut monitor = Monitor::new(log.limits, options.stage.clone(), secret);
     let mut out = BufWriter::new(io::stdout().lock());
     let mut summary = Summary::default();
     while let Some(event) = log.next_event().map_err(named)? {

@@ -21,6 +21,16 @@ pub struct Limits {
     pub epochs: u64,
 }
 
+/// The codes of the entries that are done; the others are out of range.
+#[derive(Clone, Debug, PartialEq)]
+pub struct Stage(pub Vec<u8>);
+
+impl Stage {
+    pub fn all() -> Stage {
+        Stage((0..9).collect())
+    }
+}
+
 /// Why an event isn't looked at; nothing changes.
 #[derive(Clone, Copy, Debug, PartialEq)]
 pub enum Refusal {
@@ -78,6 +88,7 @@ struct Sums {
 
 pub struct Monitor {
     limits: Limits,
+    stage: Stage,
     secret: [u8; 32],
     verifiers: Vec<Verifier>,
     /// Of each epoch in which something was added or evicted.
@@ -89,9 +100,9 @@ pub struct Monitor {
 }
 
 impl Monitor {
-    pub fn new(limits: Limits, secret: [u8; 32]) -> Monitor {
+    pub fn new(limits: Limits, stage: Stage, secret: [u8; 32]) -> Monitor {
         let verifiers = (0..limits.verifiers).map(Verifier::new).collect();
-        Monitor { limits, secret, verifiers, sums: BTreeMap::new(), certified: 0, stopped: false }
+        Monitor { limits, stage, secret, verifiers, sums: BTreeMap::new(), certified: 0, stopped: false }
     }
 
     pub fn answer(&mut self, event: Result<Event, Malformed>) -> Answer {
@@ -128,6 +139,9 @@ impl Monitor {
     }
 
     fn in_range(&self, entry: &Entry) -> bool {
+        if !self.stage.0.contains(&entry.code()) {
+            return false;
+        }
         match entry {
             Entry::AddMerkle { record, above } => good_record(record) && good_node_path(above),
             Entry::AddBlum { record, at, by } => {

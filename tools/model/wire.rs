@@ -23,6 +23,22 @@ pub enum Entry {
     Set { key: Bytes, value: Bytes },
 }
 
+impl Entry {
+    pub fn code(&self) -> u8 {
+        match self {
+            Entry::AddMerkle { .. } => 0,
+            Entry::AddBlum { .. } => 1,
+            Entry::EvictMerkle { .. } => 2,
+            Entry::EvictBlum { .. } => 3,
+            Entry::EvictBlumMerkle { .. } => 4,
+            Entry::NextEpoch => 5,
+            Entry::VerifyEpoch => 6,
+            Entry::Get { .. } => 7,
+            Entry::Set { .. } => 8,
+        }
+    }
+}
+
 #[derive(Clone, Debug, PartialEq)]
 pub struct Event {
     pub verifier: u64,

@@ -6,7 +6,7 @@ const X: &[u8] = b"x";
 const Y: &[u8] = b"y";
 
 fn monitor() -> Monitor {
-    Monitor::new(Limits { verifiers: 2, places: 4, epochs: 2 }, [7; 32])
+    Monitor::new(Limits { verifiers: 2, places: 4, epochs: 2 }, Stage::all(), [7; 32])
 }
 
 fn data(key: &[u8], value: Option<&[u8]>) -> Record {
