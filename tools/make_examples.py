@@ -1,5 +1,5 @@
 #!/usr/bin/env python3
-"""Writes the logs in examples/ and their description, examples/README.md, with the answers that the model gives."""
+"""Writes the logs in examples/ and their description, examples/LOGS.md, with the answers that the model gives."""
 import subprocess
 import sys
 from pathlib import Path
@@ -162,7 +162,7 @@ def main():
     subprocess.run([TOP / "tools/build"], check=True)
     EXAMPLES.mkdir(exist_ok=True)
     intro = "# Example logs\n\nMade by `tools/make_examples.py`. A timestamp is an epoch and a counter. Any secret key gives these answers."
-    (EXAMPLES / "README.md").write_text("\n\n".join([intro, *(described(*log) for log in LOGS)]) + "\n")
+    (EXAMPLES / "LOGS.md").write_text("\n\n".join([intro, *(described(*log) for log in LOGS)]) + "\n")
 
 
 if __name__ == "__main__":
