@@ -57,8 +57,7 @@ fn limits(line: &[u8]) -> Option<Limits> {
     let [verifiers, places, epochs] = numbers[..] else {
         return None;
     };
-    let in_range =
-        (1..=64).contains(&verifiers) && (2..=32_768).contains(&places) && (2..=16).contains(&epochs);
+    let in_range = (1..=64).contains(&verifiers) && (2..=32_768).contains(&places) && (2..=16).contains(&epochs);
     in_range.then_some(Limits { verifiers: verifiers as u64, places, epochs: epochs as u64 })
 }
 
@@ -80,8 +79,15 @@ mod tests {
     fn first_lines() {
         assert_eq!(limits(b"4 1024 4\n"), Some(Limits { verifiers: 4, places: 1024, epochs: 4 }));
         let refused: [&[u8]; 9] = [
-            b"4 1024 4", b"4  1024 4\n", b"4 1024\n", b"04 1024 4\n", b"+4 1024 4\n", b"0 1024 4\n",
-            b"65 2 2\n", b"1 1 2\n", b"1 32769 2\n",
+            b"4 1024 4",
+            b"4  1024 4\n",
+            b"4 1024\n",
+            b"04 1024 4\n",
+            b"+4 1024 4\n",
+            b"0 1024 4\n",
+            b"65 2 2\n",
+            b"1 1 2\n",
+            b"1 32769 2\n",
         ];
         for line in refused {
             assert_eq!(limits(line), None);

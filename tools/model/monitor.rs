@@ -144,14 +144,10 @@ impl Monitor {
         }
         match entry {
             Entry::AddMerkle { record, above } => good_record(record) && good_node_path(above),
-            Entry::AddBlum { record, at, by } => {
-                good_record(record) && good_counter(at) && *by < self.limits.verifiers
-            }
+            Entry::AddBlum { record, at, by } => good_record(record) && good_counter(at) && *by < self.limits.verifiers,
             Entry::EvictMerkle { path, above } => good_path(path) && good_node_path(above),
             Entry::EvictBlum { path, at } => good_path(path) && good_counter(at),
-            Entry::EvictBlumMerkle { path, above, at } => {
-                good_path(path) && good_node_path(above) && good_counter(at)
-            }
+            Entry::EvictBlumMerkle { path, above, at } => good_path(path) && good_node_path(above) && good_counter(at),
             Entry::NextEpoch | Entry::VerifyEpoch => true,
             Entry::Get { key, value } => good_key(key) && good_value(value.as_deref()),
             Entry::Set { key, value } => good_key(key) && good_value(Some(value)),
@@ -214,9 +210,7 @@ impl Monitor {
 /// The epoch that an entry names or begins.
 fn epoch_named(verifier: &Verifier, entry: &Entry) -> Option<u64> {
     match entry {
-        Entry::AddBlum { at, .. }
-        | Entry::EvictBlum { at, .. }
-        | Entry::EvictBlumMerkle { at, .. } => Some(at.epoch),
+        Entry::AddBlum { at, .. } | Entry::EvictBlum { at, .. } | Entry::EvictBlumMerkle { at, .. } => Some(at.epoch),
         Entry::NextEpoch => Some(verifier.clock.epoch + 1),
         _ => None,
     }

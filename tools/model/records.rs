@@ -97,8 +97,6 @@ fn sized(bytes: &[u8]) -> Bytes {
 fn pointer_bytes(pointer: &Pointer) -> Bytes {
     match pointer {
         Pointer::Absent => vec![0],
-        Pointer::Present { path, hash, in_blum } => {
-            [&[1, u8::from(*in_blum)], &sized(&path.0)[..], hash].concat()
-        }
+        Pointer::Present { path, hash, in_blum } => [&[1, u8::from(*in_blum)], &sized(&path.0)[..], hash].concat(),
     }
 }

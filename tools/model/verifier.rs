@@ -169,9 +169,7 @@ impl Verifier {
         };
         children.iter().any(|pointer| match pointer {
             Pointer::Absent => false,
-            Pointer::Present { path, .. } => {
-                self.store.get(path).is_some_and(|child| child.added == Added::ByMerkle)
-            }
+            Pointer::Present { path, .. } => self.store.get(path).is_some_and(|child| child.added == Added::ByMerkle),
         })
     }
 

@@ -73,9 +73,7 @@ impl Reader<'_> {
             1 => Entry::AddBlum { record: self.record()?, at: self.timestamp()?, by: self.number()? },
             2 => Entry::EvictMerkle { path: self.path()?, above: self.path()? },
             3 => Entry::EvictBlum { path: self.path()?, at: self.timestamp()? },
-            4 => {
-                Entry::EvictBlumMerkle { path: self.path()?, above: self.path()?, at: self.timestamp()? }
-            }
+            4 => Entry::EvictBlumMerkle { path: self.path()?, above: self.path()?, at: self.timestamp()? },
             5 => Entry::NextEpoch,
             6 => Entry::VerifyEpoch,
             7 => Entry::Get { key: self.text()?, value: self.value()? },
@@ -143,9 +141,7 @@ impl Reader<'_> {
     fn pointer(&mut self) -> Result<Pointer, Malformed> {
         match self.flag()? {
             false => Ok(Pointer::Absent),
-            true => {
-                Ok(Pointer::Present { in_blum: self.flag()?, path: self.path()?, hash: self.hash()? })
-            }
+            true => Ok(Pointer::Present { in_blum: self.flag()?, path: self.path()?, hash: self.hash()? }),
         }
     }
 

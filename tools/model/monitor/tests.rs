@@ -60,8 +60,7 @@ fn handed_over() -> Vec<(u64, Entry)> {
 fn given_back() -> Vec<(u64, Entry)> {
     let get = Entry::Get { key: b"d".to_vec(), value: Some(X.to_vec()) };
     let evict = Entry::EvictBlum { path: Path::of_key(b"d"), at: at(0, 2) };
-    let more =
-        vec![(1, get), (1, set(b"d", Y)), (1, evict), (0, Entry::NextEpoch), (1, Entry::NextEpoch)];
+    let more = vec![(1, get), (1, set(b"d", Y)), (1, evict), (0, Entry::NextEpoch), (1, Entry::NextEpoch)];
     [handed_over(), more].concat()
 }
 
