@@ -112,7 +112,7 @@ pub fn set_child(slot: &mut [u64], d: usize, child: &Child)
 {
     let a = 8 + 10 * d;
     write_child(&mut slot[a..a + 10], child);
-    slot[MARK] = 0;
+    slot[MARK] = 0; // the hash was of the node before
 }
 
 // Writes the value of the data record in a slot.
@@ -126,7 +126,7 @@ pub fn set_value(slot: &mut [u64], value: &[u8])
     slot[VALUE] = value.len() as u64;
     let past = VALUE + 1 + (value.len() + 7) / 8;
     write_bytes(&mut slot[VALUE + 1..past], value);
-    slot[MARK] = 0;
+    slot[MARK] = 0; // the hash was of the value before
 }
 
 // Writes the hash of the record in a slot, and marks the record as unchanged since.
