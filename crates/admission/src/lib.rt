@@ -1,4 +1,6 @@
 // Which events are refused: the first of a fixed list that applies. Nothing is written, and nothing hashed.
+#![tactic(auto)]
+
 ghost use Rattle.std.specs.Prelude.{◌≡◌, ℕ, ◌<◌, ◌≤◌, true, ◌&&◌, length, IfOk, IfErr, nat_le};
 ghost use Rattle.model.specs.Verifier.{Verifier};
 ghost use Rattle.model.specs.Monitor.{Limits, State, logged, verifier_at, entry_code, is_add, epoch_named, fits_32, refusal};
@@ -29,7 +31,7 @@ const LAST_EPOCH: u64 = 0xffff_ffff;
 
 // An entry's code.
 pub fn code(entry: Entry<'_>) -> u8
-    ensures { result ≡ entry_code (entry_of entry.entry) }
+    ensures { result ≡ entry_code (entry_of entry) }
 {
     match entry {
         Entry::AddMerkle { .. } => 0,
@@ -59,7 +61,7 @@ fn lacks_room(block: &[u64], n: usize, code: u8) -> bool
 // The epoch that an entry names or begins; one that is out of range stays so.
 fn named_epoch(block: &[u64], entry: Entry<'_>) -> u64
     requires { 64 ≤ length block.now }
-    ensures { (n : ℕ) (v : Verifier) → Keeps n block.now v → Named result (epoch_named v (entry_of entry.entry)) }
+    ensures { (n : ℕ) (v : Verifier) → Keeps n block.now v → Named result (epoch_named v (entry_of entry)) }
 {
     match entry {
         Entry::AddBlum { timestamp, .. } => timestamp.epoch,
@@ -74,9 +76,9 @@ fn named_epoch(block: &[u64], entry: Entry<'_>) -> u64
 pub fn admitted(block: &[u64], standing: Standing, entry: Entry<'_>) -> Result<Packed, u8>
     requires few { 2 ≤ standing.places }
     requires room { length block.now ≡ block_words standing.places }
-    ensures packed { IfOk result (PacksEntry entry.entry) }
+    ensures packed { IfOk result (PacksEntry entry) }
     ensures listed { IfErr result (λ c. 2 ≤ c) }
-    ensures refusal { (l : Limits) (s : State) (t : ℕ) → GoodLimits all_entries l → Stands standing l s → t < l.verifiers → Keeps standing.places block.now (verifier_at s.verifiers t) → refusal l s (logged t (entry_of entry.entry)) ≡ code_of result }
+    ensures refusal { (l : Limits) (s : State) (t : ℕ) → GoodLimits all_entries l → Stands standing l s → t < l.verifiers → Keeps standing.places block.now (verifier_at s.verifiers t) → refusal l s (logged t (entry_of entry)) ≡ code_of result }
 {
     let Some(packed) = in_range(entry, standing.verifiers) else {
         return Err(OUT_OF_RANGE);

@@ -1,4 +1,6 @@
 // One verifier's block of words.
+#![tactic(auto)]
+
 ghost use Rattle.std.specs.Prelude.{◌≡◌, ◌+◌, ◌*◌, ◌≤◌, length, nat_le};
 ghost use Rattle.model.specs.Verifier.{Verifier};
 ghost use Rattle.block.specs.Blocks.{block_words, Keeps};

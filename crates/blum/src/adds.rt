@@ -39,7 +39,7 @@ pub fn add_blum_data(
     requires key { length key.now ≤ 64 }
     requires value { IfSome value (λ v. length v.now ≤ 1024) }
     ensures same { is_ok result ≡ false → block.new ≡ block.old }
-    ensures step { (t j : ℕ) (v : Verifier) → Keeps n block.old v → length v.store < n → timestamp.counter < 2 ^ 64 - 1 → Taken n block.new result (verifier_step t v (add_blum (data_record key.now (option_map (λ x. x.now) value.entry)) (timestamp_of timestamp) j)) }
+    ensures step { (t j : ℕ) (v : Verifier) → Keeps n block.old v → length v.store < n → timestamp.counter < 2 ^ 64 - 1 → Taken n block.new result (verifier_step t v (add_blum (data_record key.now (option_map (λ x. x.now) value)) (timestamp_of timestamp) j)) }
 {
     let path = key_path(key);
     let after = may_add_blum(block, n, &path, timestamp)?;
@@ -69,7 +69,7 @@ pub fn add_blum_node(
     requires few { 2 ≤ n }
     requires room { length block.old ≡ block_words n }
     ensures same { is_ok result ≡ false → block.new ≡ block.old }
-    ensures step { (t j : ℕ) (v : Verifier) → Keeps n block.old v → length v.store < n → timestamp.counter < 2 ^ 64 - 1 → Taken n block.new result (verifier_step t v (add_blum (node (path_in path.now.len path.now.bits) (record { left = child_meant left.entry.now; right = child_meant right.now })) (timestamp_of timestamp) j)) }
+    ensures step { (t j : ℕ) (v : Verifier) → Keeps n block.old v → length v.store < n → timestamp.counter < 2 ^ 64 - 1 → Taken n block.new result (verifier_step t v (add_blum (node (path_in path.now.len path.now.bits) (record { left = child_meant left.now; right = child_meant right.now })) (timestamp_of timestamp) j)) }
 {
     let after = may_add_blum(block, n, path, timestamp)?;
     advance(block, after);

@@ -1,4 +1,6 @@
 // One verifier's entries by Blum, and its epochs, over its own block of words: everything is asked first, and then written.
+#![tactic(auto)]
+
 mod adds;
 mod epochs;
 mod evicts;

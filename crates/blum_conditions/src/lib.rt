@@ -1,4 +1,6 @@
 // Whether entries by Blum are right, asked of a verifier's block before anything is written.
+#![tactic(auto)]
+
 mod adds;
 mod evicts;
 mod links;

@@ -1,4 +1,6 @@
 // What entries that are right write into the store.
+#![tactic(auto)]
+
 ghost use Rattle.std.specs.Prelude.{◌≡◌, ℕ, ◌*◌, ◌<◌, ◌≤◌, Bool, true, false, List, ◌∷◌, length, IfSome};
 ghost use Rattle.std.specs.Option.{option_map};
 ghost use Rattle.model.specs.Records.{is_data, children_of, node, data_record, with_child, present, key_path, merkle_hash};
@@ -102,7 +104,7 @@ pub fn add_merkle_data(
     requires value { IfSome value (λ v. length v.now ≤ 1024) }
     requires above { adding.now.above < n }
     requires two { adding.now.side < 2 }
-    ensures { (xs : List Stored) (l : ℕ) (us : List ℕ) → Holds n salt mem.old xs → length xs < n → path_in path.now.len path.now.bits ≡ key_path key.now → Walked n salt mem.old l us adding.now.above → is_data (stored_at n mem.old adding.now.above).rec ≡ false → OwnHash adding.now.way (merkle_hash (data_record key.now (option_map (λ v. v.now) value.entry))) → Holds n salt mem.new (record { rec = data_record key.now (option_map (λ v. v.now) value.entry); by_merkle = true } ∷ after_link adding.now.way (node (path_in l us) (with_child (children_of (stored_at n mem.old adding.now.above).rec) adding.now.side (present (path_in path.now.len path.now.bits) 0 false))) xs) }
+    ensures { (xs : List Stored) (l : ℕ) (us : List ℕ) → Holds n salt mem.old xs → length xs < n → path_in path.now.len path.now.bits ≡ key_path key.now → Walked n salt mem.old l us adding.now.above → is_data (stored_at n mem.old adding.now.above).rec ≡ false → OwnHash adding.now.way (merkle_hash (data_record key.now (option_map (λ v. v.now) value))) → Holds n salt mem.new (record { rec = data_record key.now (option_map (λ v. v.now) value); by_merkle = true } ∷ after_link adding.now.way (node (path_in l us) (with_child (children_of (stored_at n mem.old adding.now.above).rec) adding.now.side (present (path_in path.now.len path.now.bits) 0 false))) xs) }
 {
     link(mem, n, path, adding);
     let i = add_data(mem, n, salt, path, key, value, true);
@@ -111,7 +113,7 @@ pub fn add_merkle_data(
 
 // The child pointers of a node that is added: what was known where it is put between is its child.
 fn with_next(path: &Path, left: &Child, right: &Child, way: &Way) -> (Child, Child)
-    ensures { record { left = child_meant result.0; right = child_meant result.1 } ≡ children_after way.now (path_in path.now.len path.now.bits) (record { left = child_meant left.entry.now; right = child_meant right.now }) }
+    ensures { record { left = child_meant result.0; right = child_meant result.1 } ≡ children_after way.now (path_in path.now.len path.now.bits) (record { left = child_meant left.now; right = child_meant right.now }) }
 {
     match way {
         Way::Between(next, hash, by_blum) => {
@@ -139,7 +141,7 @@ pub fn add_merkle_node(
     requires room { length mem.old ≡ 192 * n }
     requires above { adding.now.above < n }
     requires two { adding.now.side < 2 }
-    ensures { (xs : List Stored) (l : ℕ) (us : List ℕ) → Holds n salt mem.old xs → length xs < n → Walked n salt mem.old l us adding.now.above → is_data (stored_at n mem.old adding.now.above).rec ≡ false → OwnHash adding.now.way (merkle_hash (node (path_in path.now.len path.now.bits) (record { left = child_meant left.entry.now; right = child_meant right.now }))) → Holds n salt mem.new (record { rec = node (path_in path.now.len path.now.bits) (children_after adding.now.way (path_in path.now.len path.now.bits) (record { left = child_meant left.entry.now; right = child_meant right.now })); by_merkle = true } ∷ after_link adding.now.way (node (path_in l us) (with_child (children_of (stored_at n mem.old adding.now.above).rec) adding.now.side (present (path_in path.now.len path.now.bits) 0 false))) xs) }
+    ensures { (xs : List Stored) (l : ℕ) (us : List ℕ) → Holds n salt mem.old xs → length xs < n → Walked n salt mem.old l us adding.now.above → is_data (stored_at n mem.old adding.now.above).rec ≡ false → OwnHash adding.now.way (merkle_hash (node (path_in path.now.len path.now.bits) (record { left = child_meant left.now; right = child_meant right.now }))) → Holds n salt mem.new (record { rec = node (path_in path.now.len path.now.bits) (children_after adding.now.way (path_in path.now.len path.now.bits) (record { left = child_meant left.now; right = child_meant right.now })); by_merkle = true } ∷ after_link adding.now.way (node (path_in l us) (with_child (children_of (stored_at n mem.old adding.now.above).rec) adding.now.side (present (path_in path.now.len path.now.bits) 0 false))) xs) }
 {
     link(mem, n, path, adding);
     let (left, right) = with_next(path, left, right, &adding.way);

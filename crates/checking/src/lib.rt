@@ -1,4 +1,6 @@
 // Checks a log file: its first line, its events one after the other, and what the answers come to.
+#![tactic(auto)]
+
 mod check;
 mod events;
 mod key;

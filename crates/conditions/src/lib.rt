@@ -1,4 +1,6 @@
 // Whether entries are right, asked of the store before anything is written.
+#![tactic(auto)]
+
 ghost use Rattle.std.specs.Prelude.{◌≡◌, ℕ, ◌*◌, ◌<◌, ◌≤◌, Bool, true, false, not, length, ◌==◌};
 ghost use Rattle.model.specs.Records.{Record, Path as Route};
 ghost use Rattle.model.specs.Verifier.{Verifier};

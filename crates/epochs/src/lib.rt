@@ -1,4 +1,6 @@
 // The sums of the epochs under way and what is certified, over all of a monitor's memory.
+#![tactic(auto)]
+
 mod certifying;
 mod header;
 mod summing;

@@ -1,4 +1,6 @@
 // What a right entry leaves besides its verifier's block: the sums, what is certified, and its answer.
+#![tactic(auto)]
+
 ghost use Rattle.std.specs.Prelude.{◌≡◌, List, length};
 ghost use Rattle.model.specs.Verifier.{Element};
 ghost use Rattle.model.specs.Monitor.{Limits as Meant, State, add_elements, evict_elements};

@@ -1,4 +1,6 @@
 // The bytes of stored records that are hashed, from the words of their slots.
+#![tactic(auto)]
+
 ghost use Rattle.std.specs.Prelude.{◌≡◌, ◌+◌, ◌*◌, ◌≤◌, [], ◌∷◌, length, take, ◌≢◌, slice_index};
 ghost use Rattle.model.specs.Records.{le_bytes, sized_bytes, pointer_bytes, merkle_bytes, record_bytes};
 ghost use Rattle.path.specs.Packs.{path_in};

@@ -1,4 +1,6 @@
 // Checks the log that a store's keeper writes: `hundzelo check LOG`.
+#![tactic(auto)]
+
 mod check;
 mod events;
 mod key;

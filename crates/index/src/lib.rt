@@ -1,4 +1,6 @@
 // Slots found by a hash of their paths, in chains.
+#![tactic(auto)]
+
 ghost use Rattle.std.specs.Prelude.{◌≡◌, ℕ, ◌+◌, ◌*◌, ◌<◌, ◌≤◌, Bool, true, false, List, [], ◌∷◌, ◌++◌, length, slice_index, slice_index_or, slice_set};
 ghost use Rattle.slot.specs.Layout.{slot_words};
 ghost use Rattle.slot.specs.Finds.{position};

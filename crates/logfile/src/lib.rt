@@ -1,4 +1,6 @@
 // A log file: the limits in its first line, and where its events begin and end.
+#![tactic(auto)]
+
 mod frame;
 mod limits;
 

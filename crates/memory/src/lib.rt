@@ -1,4 +1,6 @@
 // A monitor's memory.
+#![tactic(auto)]
+
 mod limits;
 mod opening;
 

@@ -1,4 +1,6 @@
 // What is checked, as definitions: SHA-256, records, one verifier, the monitor of all of them, and what is promised. See specs/.
+#![tactic(auto)]
+
 ghost use Rattle.model.specs.Examples.{Examples};
 ghost use Rattle.model.specs.TwoVerifiers.{TwoVerifiers};
 

@@ -1,4 +1,6 @@
 // One event after the other, answered. No entry can be done yet: an event is refused as malformed, or as one that can't be done.
+#![tactic(auto)]
+
 ghost use Rattle.std.specs.Prelude.{◌≡◌, false, ℕ};
 ghost use Rattle.model.specs.Monitor.{Limits, State, malformed, answer as answering};
 ghost use Rattle.model.specs.Wire.{read as reading};

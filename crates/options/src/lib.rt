@@ -1,4 +1,6 @@
 // What the program's arguments ask for.
+#![tactic(auto)]
+
 ghost use Rattle.std.specs.Prelude.{◌≡◌, ◌==◌, slice_index};
 ghost use Rattle.options.specs.Flags.{Spells};
 

@@ -1,4 +1,6 @@
 // The theorems about the definitions of crate `model`, each on the contract of a function of its own; proofs/ has the proofs.
+#![tactic(auto)]
+
 ghost use Rattle.model.specs.Order.{CertifiedIsOne, OneByTheTree};
 ghost use Rattle.model.specs.Statements.{StaysCertified, EvictedOnce, SumsAreSums, StoredOnce, ClockAdvances, AddBlumPasses, EvictBlumAdvances, EvictBlumMerkleAdvances, StaysStopped, WrongIsFinal, BytesDetermine, RefusedUnchanged};
 

@@ -1,4 +1,6 @@
 // Packed paths, 64 bits to a word, the high bit first; and timestamps.
+#![tactic(auto)]
+
 ghost use Rattle.std.specs.Prelude.{◌≡◌, ℕ, ◌-◌, ◌*◌, ◌<◌, ◌≤◌, true, List, length, is_some, IfSome, slice_index};
 ghost use Rattle.model.specs.Records.{below, side, same_bytes, less_bytes};
 ghost use Rattle.path.specs.Packs.{word_bits, path_in, Packs};

@@ -1,4 +1,6 @@
 // Which entries are refused for what they name: all of it is in range, and is handed on packed, or nothing is.
+#![tactic(auto)]
+
 ghost use Rattle.std.specs.Prelude.{◌≡◌, is_some, IfSome};
 ghost use Rattle.model.specs.Monitor.{Limits, good_entry};
 ghost use Rattle.range.specs.Packing.{PacksEntry};
@@ -14,8 +16,8 @@ use wire::Entry;
 
 // What an entry names, if all of it is in range for this many verifiers.
 pub fn in_range(entry: Entry<'_>, verifiers: u64) -> Option<Packed>
-    ensures some { (l : Limits) → l.verifiers ≡ verifiers → is_some result ≡ good_entry l (entry_of entry.entry) }
-    ensures packed { IfSome result (PacksEntry entry.entry) }
+    ensures some { (l : Limits) → l.verifiers ≡ verifiers → is_some result ≡ good_entry l (entry_of entry) }
+    ensures packed { IfSome result (PacksEntry entry) }
 {
     match entry {
         Entry::AddMerkle { record, above } => entries::add_merkle(record, above),

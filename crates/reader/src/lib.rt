@@ -1,4 +1,6 @@
 // Fields and records read from bytes, without a copy.
+#![tactic(auto)]
+
 ghost use Rattle.std.specs.Prelude.{◌≡◌, ◌<◌, true, length, IfSome};
 ghost use Rattle.std.specs.Option.{option_map};
 ghost use Rattle.model.specs.Records.{le_number};

@@ -1,4 +1,6 @@
 // Paths with a byte for each bit, and the paths of keys.
+#![tactic(auto)]
+
 mod keys;
 mod packing;
 mod unpacking;

@@ -1,4 +1,6 @@
 // SHA-256 (FIPS 180-4, whose sections are named) of any slice of bytes, with no allocation.
+#![tactic(auto)]
+
 ghost use Rattle.std.specs.Prelude.{◌≡◌, ℕ, ◌+◌, ◌-◌, ◌*◌, ◌/◌, ◌%◌, ◌<◌, ◌≤◌, List, ◌∷◌, ◌++◌, map, length, take, drop, replicate, slice_index};
 ghost use Rattle.model.specs.Records.{hash_of};
 ghost use Rattle.model.specs.Sha256.{be_words, block_count, compress, extend_schedule, rotr, sha256};

@@ -1,4 +1,6 @@
 // The words of one stored record, written.
+#![tactic(auto)]
+
 ghost use Rattle.std.specs.Prelude.{◌≡◌, ℕ, ◌+◌, ◌*◌, ◌<◌, ◌≤◌, Bool, true, false, List, length, IfSome, Some, None};
 ghost use Rattle.std.specs.Option.{option_map};
 ghost use Rattle.model.specs.Records.{data_record, node, with_child, children_of, is_data, key_path, merkle_hash};
@@ -41,7 +43,7 @@ fn write_head(slot: &mut [u64], kind: u64, by_merkle: bool, path: &Path)
 pub fn write_node(slot: &mut [u64], path: &Path, left: &Child, right: &Child, by_merkle: bool)
     requires size { length slot.old ≡ slot_words }
     ensures slot { Slot slot.new }
-    ensures stored { stored_in slot.new ≡ record { rec = node (path_in path.now.len path.now.bits) (record { left = child_meant left.entry.now; right = child_meant right.now }); by_merkle = by_merkle } }
+    ensures stored { stored_in slot.new ≡ record { rec = node (path_in path.now.len path.now.bits) (record { left = child_meant left.now; right = child_meant right.now }); by_merkle = by_merkle } }
 {
     write_head(slot, 0, by_merkle, path);
     write_child(&mut slot[8..18], left);
@@ -69,7 +71,7 @@ pub fn write_data(slot: &mut [u64], path: &Path, key: &[u8], value: Option<&[u8]
     requires size { length slot.old ≡ slot_words }
     requires key { length key.now ≤ 64 }
     requires value { IfSome value (λ v. length v.now ≤ 1024) }
-    ensures { path_in path.now.len path.now.bits ≡ key_path key.now → Slot slot.new × (stored_in slot.new ≡ record { rec = data_record key.now (option_map (λ v. v.now) value.entry); by_merkle = by_merkle }) }
+    ensures { path_in path.now.len path.now.bits ≡ key_path key.now → Slot slot.new × (stored_in slot.new ≡ record { rec = data_record key.now (option_map (λ v. v.now) value); by_merkle = by_merkle }) }
 {
     write_key(slot, path, key, by_merkle);
     if let Some(v) = value {

@@ -1,4 +1,6 @@
 // Records in lent memory: found, added, changed and removed. `n` places take 192 words each.
+#![tactic(auto)]
+
 ghost use Rattle.std.specs.Prelude.{◌≡◌, ℕ, ◌+◌, ◌-◌, ◌*◌, ◌%◌, ◌^◌, ◌<◌, ◌≤◌, true, false, List, [], ◌∷◌, length, IfSome, Some, bit_xor, nat_le, slice_index};
 ghost use Rattle.std.specs.Option.{option_map};
 ghost use Rattle.model.specs.Records.{data_record, node, with_child, children_of, is_data, key_path, merkle_hash};
@@ -130,7 +132,7 @@ pub fn add_node(
     requires room { length mem.old ≡ 192 * n }
     ensures same { n ≤ result → mem.new ≡ mem.old }
     ensures full { (xs : List Stored) → Holds n salt mem.old xs → nat_le n result ≡ nat_le n (length xs) }
-    ensures stored { (xs : List Stored) → Holds n salt mem.old xs → result < n → Added n salt mem.new xs (record { rec = node (path_in path.now.len path.now.bits) (record { left = child_meant left.entry.now; right = child_meant right.now }); by_merkle = by_merkle }) result }
+    ensures stored { (xs : List Stored) → Holds n salt mem.old xs → result < n → Added n salt mem.new xs (record { rec = node (path_in path.now.len path.now.bits) (record { left = child_meant left.now; right = child_meant right.now }); by_merkle = by_merkle }) result }
 {
     let i = first_free(mem, n);
     if i >= n {
@@ -158,7 +160,7 @@ pub fn add_data(
     requires value { IfSome value (λ v. length v.now ≤ 1024) }
     ensures same { n ≤ result → mem.new ≡ mem.old }
     ensures full { (xs : List Stored) → Holds n salt mem.old xs → nat_le n result ≡ nat_le n (length xs) }
-    ensures stored { (xs : List Stored) → Holds n salt mem.old xs → path_in path.now.len path.now.bits ≡ key_path key.now → result < n → Added n salt mem.new xs (record { rec = data_record key.now (option_map (λ v. v.now) value.entry); by_merkle = by_merkle }) result }
+    ensures stored { (xs : List Stored) → Holds n salt mem.old xs → path_in path.now.len path.now.bits ≡ key_path key.now → result < n → Added n salt mem.new xs (record { rec = data_record key.now (option_map (λ v. v.now) value); by_merkle = by_merkle }) result }
 {
     let i = first_free(mem, n);
     if i >= n {

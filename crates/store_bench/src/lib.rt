@@ -1,4 +1,6 @@
 // The store for C, to be measured: nodes without children at paths of four words.
+#![tactic(auto)]
+
 ghost use Rattle.std.specs.Prelude.{◌≡◌, true, List, [], ℕ, ◌*◌, ◌<◌, ◌≤◌, length};
 ghost use Rattle.model.specs.Records.{no_children, node};
 ghost use Rattle.model.specs.Verifier.{Stored, without};

@@ -1,4 +1,6 @@
 // Tests of stored records: stores filled, emptied in many orders and filled again; values, hashes and pointers written and read; keys and values compared.
+#![tactic(auto)]
+
 #[cfg(test)]
 mod orders;
 #[cfg(test)]

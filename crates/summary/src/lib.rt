@@ -1,4 +1,6 @@
 // Answers as text, and what the answers to a log come to.
+#![tactic(auto)]
+
 ghost use Rattle.std.specs.Prelude.{◌≡◌, is_some, Some};
 ghost use Rattle.summary.specs.Counted.{none_yet, counted, answer_text, summary_text};
 

@@ -1,4 +1,6 @@
 // The sums of an epoch: 256 bits in four lent words, the low one first, that wrap; and the hashes that are added to them.
+#![tactic(auto)]
+
 ghost use Rattle.std.specs.Prelude.{◌≡◌, ◌+◌, ◌*◌, ◌%◌, ◌^◌, ◌<◌, ◌≤◌, ◌++◌, length, take, ◌==◌};
 ghost use Rattle.model.specs.Monitor.{modulus};
 ghost use Rattle.model.specs.Records.{hash_of};

@@ -1,4 +1,6 @@
 // One verifier's entries over its own block of words: everything is asked first, and then written.
+#![tactic(auto)]
+
 mod calls;
 mod merkle;
 

@@ -1,4 +1,6 @@
 // All verifiers over lent memory: opened, and then one event after the other, answered.
+#![tactic(auto)]
+
 ghost use Rattle.std.specs.Prelude.{◌≡◌, ℕ, List, ◌∷◌};
 ghost use Rattle.model.specs.Monitor.{Limits as Meant, Event as Happened, State, malformed, state};
 ghost use Rattle.model.specs.Order.{all_entries};

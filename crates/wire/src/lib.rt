@@ -1,4 +1,6 @@
 // Events and answers read from bytes, without a copy. docs/FORMAT.md has the formats.
+#![tactic(auto)]
+
 ghost use Rattle.std.specs.Prelude.{◌≡◌, true};
 ghost use Rattle.model.specs.Readable.{readable};
 ghost use Rattle.model.specs.Wire.{read as reading, read_answer};

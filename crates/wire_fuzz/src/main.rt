@@ -1,4 +1,6 @@
 // Pseudo-random events and strings of bytes: read, written, compared. Prints how many were what.
+#![tactic(auto)]
+
 mod random;
 mod rounds;
 

@@ -1,4 +1,6 @@
 // The laws of events and answers as bytes, proved: see specs/Wire.antt of crate `model`.
+#![tactic(auto)]
+
 ghost use Rattle.model.specs.Wire.{EventsReadBack, EventsReadExactly, MalformedThere, FirstBytesTell, AnswersReadBack, AnswersReadExactly};
 
 // Every readable event is read back as it was written.

@@ -1,4 +1,6 @@
 // Tests of reading and writing events and answers, case by case.
+#![tactic(auto)]
+
 #[cfg(test)]
 mod answers;
 #[cfg(test)]

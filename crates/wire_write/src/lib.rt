@@ -1,4 +1,6 @@
 // Events and answers written as bytes into a lent slice. docs/FORMAT.md has the formats.
+#![tactic(auto)]
+
 mod answers;
 mod events;
 mod fields;
