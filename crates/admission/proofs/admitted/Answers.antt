@@ -27,15 +27,15 @@ fullness x l s v e k b st h i = ap (λ (n : ℕ). leb (entry_code e) 1 && leb n 
 distance : (x : Standing) (l : Limits) (s : State) (n r : ℕ) (b : Bool) → Stands x l s → r ≡ n → leb (x.certified + x.epochs) r ≡ b → too_far_ahead l s n ≡ b
 distance x l s n r b st h i = ap (λ (k : ℕ). leb (k + l.epochs) n) st.certified ∙ ap (λ (k : ℕ). leb (x.certified + k) n) st.epochs ∙ ap (leb (x.certified + x.epochs)) (sym h) ∙ i
 
-pub returns-in-default : goal.returns-in-default
-returns-in-default c = record { packed = tt; listed = omega arith; refusal = λ l s t g st lt k. not_good l s t _ (sym (c.in-default.ensures.some l st.verifiers)) }
+pub returns-in_default : goal.returns-in_default
+returns-in_default c = record { packed = tt; listed = omega arith; refusal = λ l s t g st lt k. not_good l s t _ (sym (c.in_default.ensures.some l st.verifiers)) }
 
 pub returns-then-epoch-gt-LAST-EPOCH : goal.returns-then-epoch-gt-LAST-EPOCH
 returns-then-epoch-gt-LAST-EPOCH c = record {
   packed = tt;
   listed = omega arith;
   refusal = λ l s t g st lt k.
-      beyond l s t _ (sym (c.named-epoch-epoch.ensures c.args.standing.places (verifier_at s.verifiers t) k).fits ∙ le-ltb c.named-epoch-epoch.result 4294967296 (omega (arith, c.if-epoch-gt-LAST-EPOCH.true)));
+      beyond l s t _ (sym (c.named_epoch-epoch.ensures c.args.standing.places (verifier_at s.verifiers t) k).fits ∙ le-ltb c.named_epoch-epoch.result 4294967296 (omega (arith, c.if-epoch-gt-LAST-EPOCH.true)));
 }
 
 pub returns-then-standing : goal.returns-then-standing
@@ -45,36 +45,36 @@ returns-then-standing c = record {
   refusal = λ l s t g st lt k.
       let e = entry_of c.args.entry in
       let v = verifier_at s.verifiers t in
-      let named = c.named-epoch-epoch.ensures c.args.standing.places v k in
+      let named = c.named_epoch-epoch.ensures c.args.standing.places v k in
       stopped_before l s t e lt (supported l e g) (sym (c.in-Some.ensures.some l st.verifiers)) (fits v e _ named c.if-epoch-gt-LAST-EPOCH.false)
       (st.stopped ∙ c.if-standing.true);
 }
 
-pub returns-then-lacks-room : goal.returns-then-lacks-room
-returns-then-lacks-room c = record {
+pub returns-then-lacks_room : goal.returns-then-lacks_room
+returns-then-lacks_room c = record {
   packed = tt;
   listed = omega arith;
   refusal = λ l s t g st lt k.
       let e = entry_of c.args.entry in
       let v = verifier_at s.verifiers t in
-      let named = c.named-epoch-epoch.ensures c.args.standing.places v k in
+      let named = c.named_epoch-epoch.ensures c.args.standing.places v k in
       no_room l s t e lt (supported l e g) (sym (c.in-Some.ensures.some l st.verifiers)) (fits v e _ named c.if-epoch-gt-LAST-EPOCH.false)
       (st.stopped ∙ c.if-standing.false)
-      (fullness c.args.standing l s v e _ true st c.code.ensures (c.if-lacks-room.ensures v k));
+      (fullness c.args.standing l s v e _ true st c.code.ensures (c.if-lacks_room.ensures v k));
 }
 
-pub returns-then-epoch-saturating-add : goal.returns-then-epoch-saturating-add
-returns-then-epoch-saturating-add c = record {
+pub returns-then-epoch-saturating_add : goal.returns-then-epoch-saturating_add
+returns-then-epoch-saturating_add c = record {
   packed = tt;
   listed = omega arith;
   refusal = λ l s t g st lt k.
       let e = entry_of c.args.entry in
       let v = verifier_at s.verifiers t in
-      let named = c.named-epoch-epoch.ensures c.args.standing.places v k in
+      let named = c.named_epoch-epoch.ensures c.args.standing.places v k in
       too_far l s t e lt (supported l e g) (sym (c.in-Some.ensures.some l st.verifiers)) (fits v e _ named c.if-epoch-gt-LAST-EPOCH.false)
       (st.stopped ∙ c.if-standing.false)
-      (fullness c.args.standing l s v e _ false st c.code.ensures (c.if-lacks-room.ensures v k))
-      (distance c.args.standing l s _ c.named-epoch-epoch.result true st (epoch_is v e _ named c.if-epoch-gt-LAST-EPOCH.false) (far _ _ _ _ c.saturating-add.ensures c.if-epoch-gt-LAST-EPOCH.false c.if-epoch-saturating-add.true));
+      (fullness c.args.standing l s v e _ false st c.code.ensures (c.if-lacks_room.ensures v k))
+      (distance c.args.standing l s _ c.named_epoch-epoch.result true st (epoch_is v e _ named c.if-epoch-gt-LAST-EPOCH.false) (far _ _ _ _ c.saturating_add.ensures c.if-epoch-gt-LAST-EPOCH.false c.if-epoch-saturating_add.true));
 }
 
 pub returns : goal.returns
@@ -84,9 +84,9 @@ returns c = record {
   refusal = λ l s t g st lt k.
       let e = entry_of c.args.entry in
       let v = verifier_at s.verifiers t in
-      let named = c.named-epoch-epoch.ensures c.args.standing.places v k in
+      let named = c.named_epoch-epoch.ensures c.args.standing.places v k in
       taken l s t e lt (supported l e g) (sym (c.in-Some.ensures.some l st.verifiers)) (fits v e _ named c.if-epoch-gt-LAST-EPOCH.false)
       (st.stopped ∙ c.if-standing.false)
-      (fullness c.args.standing l s v e _ false st c.code.ensures (c.if-lacks-room.ensures v k))
-      (distance c.args.standing l s _ c.named-epoch-epoch.result false st (epoch_is v e _ named c.if-epoch-gt-LAST-EPOCH.false) (near _ _ _ _ c.saturating-add.ensures c.if-epoch-gt-LAST-EPOCH.false c.if-epoch-saturating-add.false));
+      (fullness c.args.standing l s v e _ false st c.code.ensures (c.if-lacks_room.ensures v k))
+      (distance c.args.standing l s _ c.named_epoch-epoch.result false st (epoch_is v e _ named c.if-epoch-gt-LAST-EPOCH.false) (near _ _ _ _ c.saturating_add.ensures c.if-epoch-gt-LAST-EPOCH.false c.if-epoch-saturating_add.false));
 }

@@ -23,7 +23,7 @@ pub returns-in-NextEpoch : goal.returns-in-NextEpoch
 unfolding epoch_named
 returns-in-NextEpoch c = λ n v k.
     let e : suc c.clock.result.epoch ≡ epoch_named v (entry_of c.args.entry) = ap (λ (t : model.Timestamp). suc t.epoch) (c.clock.ensures n v k) ∙ sym (ap (λ (x : Entry). epoch_named v (entry_of x)) c.in-NextEpoch.is) in
-    subst (Named c.saturating-add.result) e (named_next c.saturating-add.result c.clock.result.epoch c.saturating-add.ensures)
+    subst (Named c.saturating_add.result) e (named_next c.saturating_add.result c.clock.result.epoch c.saturating_add.ensures)
 
-pub returns-in-default : goal.returns-in-default
-returns-in-default c = λ n v k. named_same _ _ (sym (names_none v c.args.entry c.in-default.not-AddBlum c.in-default.not-EvictBlum c.in-default.not-EvictBlumMerkle c.in-default.not-NextEpoch))
+pub returns-in_default : goal.returns-in_default
+returns-in_default c = λ n v k. named_same _ _ (sym (names_none v c.args.entry c.in_default.not-AddBlum c.in_default.not-EvictBlum c.in_default.not-EvictBlumMerkle c.in_default.not-NextEpoch))

@@ -17,7 +17,7 @@ returns c = λ xs l us H room W nk own.
     let ys : List Stored = after_link a.way above xs in
     let L = c.link.ensures salt xs l us H W nk in
     let len = length_link a.way above xs in
-    let free : c.add-node-i.result < n = room_found n c.add-node-i.result _ (c.add-node-i.ensures.full ys L) (subst (λ (k : ℕ). k < n) (sym len) room) in
-    c.keep-hash.ensures salt ys _ free
-    (subst (λ (t : Children). Added n salt c.add-node-i.new.mem ys (record { rec = node p t; by_merkle = true }) c.add-node-i.result) c.with-next-left.ensures (c.add-node-i.ensures.stored ys L free))
+    let free : c.add_node-i.result < n = room_found n c.add_node-i.result _ (c.add_node-i.ensures.full ys L) (subst (λ (k : ℕ). k < n) (sym len) room) in
+    c.keep_hash.ensures salt ys _ free
+    (subst (λ (t : Children). Added n salt c.add_node-i.new.mem ys (record { rec = node p t; by_merkle = true }) c.add_node-i.result) c.with_next-left.ensures (c.add_node-i.ensures.stored ys L free))
     (own_after a.way p _ own)

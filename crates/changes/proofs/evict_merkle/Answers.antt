@@ -12,5 +12,5 @@ returns c = λ xs l us H s Wp Wq nk.
     let m = c.args.mem.now in
     let p = path_in c.args.path.now.len c.args.path.now.bits in
     let above = (stored_at n m c.args.edge.above).rec in
-    subst (λ (h : ℕ). Holds n salt c.remove.new.mem (without p (updated (node (path_in l us) (with_child (children_of above) c.args.edge.side (present p h false))) xs))) (c.merkle-hash-of-hash.ensures s)
-    (c.remove.ensures _ _ _ (c.set-child.ensures.stored salt xs l us H Wq nk) (c.set-child.ensures.stay salt _ _ _ Wp))
+    subst (λ (h : ℕ). Holds n salt c.remove.new.mem (without p (updated (node (path_in l us) (with_child (children_of above) c.args.edge.side (present p h false))) xs))) (c.merkle_hash_of-hash.ensures s)
+    (c.remove.ensures _ _ _ (c.set_child.ensures.stored salt xs l us H Wq nk) (c.set_child.ensures.stay salt _ _ _ Wp))

@@ -7,5 +7,5 @@ use Rattle.changes.proofs.keep_hash.Goals as goal
 
 pub returns-then-i-n : goal.returns-then-i-n
 returns-then-i-n c = λ salt xs x h added own.
-    c.set-hash.ensures.stored salt _ _ _ added.holds added.in_use
+    c.set_hash.ensures.stored salt _ _ _ added.holds added.in_use
     (subst (λ (w : Way). OwnHash w (merkle_hash x.rec)) c.in-Again.is own ∙ ap (λ (s : Stored). merkle_hash s.rec) (sym added.stored))

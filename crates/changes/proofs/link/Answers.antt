@@ -10,5 +10,5 @@ use Rattle.slot.specs.Layout.{number_in}
 pub returns : goal.returns
 unfolding number_in
 returns c = λ salt xs l us H W nk.
-    subst (Holds c.args.n salt c.set-child.new.mem) (sym (linked c.args.adding.now.way _ xs c.in-default.not-Again))
-    (c.set-child.ensures.stored salt xs l us H W nk)
+    subst (Holds c.args.n salt c.set_child.new.mem) (sym (linked c.args.adding.now.way _ xs c.in_default.not-Again))
+    (c.set_child.ensures.stored salt xs l us H W nk)

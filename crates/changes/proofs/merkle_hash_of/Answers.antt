@@ -13,4 +13,4 @@ returns c = λ s.
     let k : a + 190 - a ≡ 190 = omega arith in
     let e : part a (a + 190 - a) m ≡ slot_at c.args.n m c.args.i = ap (λ (x : ℕ). part a x m) k in
     c.digest.ensures.number
-    ∙ ap hash_of (gathered _ _ _ _ (c.merkle-out-end.ensures.wrote (subst Slot (sym e) s)) ∙ ap (λ (w : List ℕ). merkle_bytes (rec_in w)) e)
+    ∙ ap hash_of (gathered _ _ _ _ (c.merkle_out-end.ensures.wrote (subst Slot (sym e) s)) ∙ ap (λ (w : List ℕ). merkle_bytes (rec_in w)) e)

@@ -16,54 +16,54 @@ own_hash x own bytes e h = e ∙ ap hash_of h
 hash_is : (x : Record) (h own : ℕ) (b : Bool) → b ≡ eqb h own → own ≡ merkle_hash x → eqb h (merkle_hash x) ≡ b
 hash_is x h own b e o = ap (eqb h) (sym o) ∙ sym e
 
-pub returns-else-is-initial : goal.returns-else-is-initial
-returns-else-is-initial c = λ v x q above w. first_not v x q above _ (ap child_meant c.in-Absent.is) (sym c.if-is-initial.false ∙ w.initial-is)
+pub returns-else-is_initial : goal.returns-else-is_initial
+returns-else-is_initial c = λ v x q above w. first_not v x q above _ (ap child_meant c.in-Absent.is) (sym c.if-is_initial.false ∙ w.initial-is)
 
-pub returns-then-is-initial : goal.returns-then-is-initial
-returns-then-is-initial c = λ v x q above w. record {
-  step = first v x q above _ (ap child_meant c.in-Absent.is) (sym c.if-is-initial.true ∙ w.initial-is);
+pub returns-then-is_initial : goal.returns-then-is_initial
+returns-then-is_initial c = λ v x q above w. record {
+  step = first v x q above _ (ap child_meant c.in-Absent.is) (sym c.if-is_initial.true ∙ w.initial-is);
   own = tt;
   over = tt;
 }
 
-pub returns-then-by-blum : goal.returns-then-by-blum
-returns-then-by-blum c = λ v x q above w.
-    by_blum v x q above _ _ _ _ (ap child_meant c.in-Present.is) (of_record x (same_bytes _) _ true w.path-is c.if-is-same.ensures) c.if-by-blum.true
+pub returns-then-by_blum : goal.returns-then-by_blum
+returns-then-by_blum c = λ v x q above w.
+    by_blum v x q above _ _ _ _ (ap child_meant c.in-Present.is) (of_record x (same_bytes _) _ true w.path-is c.if-is_same.ensures) c.if-by_blum.true
 
-pub returns-then-not-same-hash : goal.returns-then-not-same-hash
-returns-then-not-same-hash c = λ v x q above w.
-    other_hash v x q above _ _ _ _ (ap child_meant c.in-Present.is) (of_record x (same_bytes _) _ true w.path-is c.if-is-same.ensures)
-    (hash_is x _ _ false c.if-not-same-hash.ensures (own_hash x _ _ c.digest-own.ensures.number w.bytes_are))
+pub returns-then-not-same_hash : goal.returns-then-not-same_hash
+returns-then-not-same_hash c = λ v x q above w.
+    other_hash v x q above _ _ _ _ (ap child_meant c.in-Present.is) (of_record x (same_bytes _) _ true w.path-is c.if-is_same.ensures)
+    (hash_is x _ _ false c.if-not-same_hash.ensures (own_hash x _ _ c.digest-own.ensures.number w.bytes_are))
 
-pub returns-then-is-same : goal.returns-then-is-same
-returns-then-is-same c = λ v x q above w.
+pub returns-then-is_same : goal.returns-then-is_same
+returns-then-is_same c = λ v x q above w.
     let own = own_hash x _ _ c.digest-own.ensures.number w.bytes_are in
     record {
-      step = again v x q above _ _ _ _ (ap child_meant c.in-Present.is) (of_record x (same_bytes _) _ true w.path-is c.if-is-same.ensures) (hash_is x _ _ true c.if-not-same-hash.ensures own) c.if-by-blum.false;
+      step = again v x q above _ _ _ _ (ap child_meant c.in-Present.is) (of_record x (same_bytes _) _ true w.path-is c.if-is_same.ensures) (hash_is x _ _ true c.if-not-same_hash.ensures own) c.if-by_blum.false;
       own = own;
       over = tt;
     }
 
-pub returns-then-not-is-initial : goal.returns-then-not-is-initial
-returns-then-not-is-initial c = λ v x q above w.
-    not_initial v x q above _ _ _ _ (ap child_meant c.in-Present.is) (of_record x (same_bytes _) _ false w.path-is c.if-is-same.ensures) (sym c.if-not-is-initial.true ∙ w.initial-is)
+pub returns-then-not-is_initial : goal.returns-then-not-is_initial
+returns-then-not-is_initial c = λ v x q above w.
+    not_initial v x q above _ _ _ _ (ap child_meant c.in-Present.is) (of_record x (same_bytes _) _ false w.path-is c.if-is_same.ensures) (sym c.if-not-is_initial.true ∙ w.initial-is)
 
-pub returns-then-not-of-node : goal.returns-then-not-of-node
-returns-then-not-of-node c = λ v x q above w.
-    not_node v x q above _ _ _ _ (ap child_meant c.in-Present.is) (of_record x (same_bytes _) _ false w.path-is c.if-is-same.ensures) (sym c.if-not-of-node.true ∙ w.node-is)
+pub returns-then-not-of_node : goal.returns-then-not-of_node
+returns-then-not-of_node c = λ v x q above w.
+    not_node v x q above _ _ _ _ (ap child_meant c.in-Present.is) (of_record x (same_bytes _) _ false w.path-is c.if-is_same.ensures) (sym c.if-not-of_node.true ∙ w.node-is)
 
-pub returns-then-not-is-below : goal.returns-then-not-is-below
-returns-then-not-is-below c = λ v x q above w.
-    not_below v x q above _ _ _ _ (ap child_meant c.in-Present.is) (of_record x (same_bytes _) _ false w.path-is c.if-is-same.ensures)
-    (sym (of_record x (below _) _ false w.path-is c.if-not-is-below.ensures))
+pub returns-then-not-is_below : goal.returns-then-not-is_below
+returns-then-not-is_below c = λ v x q above w.
+    not_below v x q above _ _ _ _ (ap child_meant c.in-Present.is) (of_record x (same_bytes _) _ false w.path-is c.if-is_same.ensures)
+    (sym (of_record x (below _) _ false w.path-is c.if-not-is_below.ensures))
 
-pub returns-else-not-is-below : goal.returns-else-not-is-below
-returns-else-not-is-below c = λ v x q above w.
-    let is = sym c.if-not-of-node.false ∙ w.node-is in
+pub returns-else-not-is_below : goal.returns-else-not-is_below
+returns-else-not-is_below c = λ v x q above w.
+    let is = sym c.if-not-of_node.false ∙ w.node-is in
     record {
       step =
-          between v x q above _ _ _ _ (ap child_meant c.in-Present.is) (of_record x (same_bytes _) _ false w.path-is c.if-is-same.ensures) (sym c.if-not-is-initial.false ∙ w.initial-is) is
-          (sym (of_record x (below _) _ true w.path-is c.if-not-is-below.ensures));
+          between v x q above _ _ _ _ (ap child_meant c.in-Present.is) (of_record x (same_bytes _) _ false w.path-is c.if-is_same.ensures) (sym c.if-not-is_initial.false ∙ w.initial-is) is
+          (sym (of_record x (below _) _ true w.path-is c.if-not-is_below.ensures));
       own = tt;
       over = not-true _ (sym is);
     }

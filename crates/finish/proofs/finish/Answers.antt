@@ -42,6 +42,6 @@ returns c = record {
       let r : Ready l s z c.args.effect true = subst (Ready l s z c.args.effect) yes' ready in
       let k = c.sum.ensures l s (between s z) r.added r.evicted agrees laid r.effect r.added_now r.evicted_now refl r.sums refl refl in
       let d = c.if-settle.ensures l (between s z) z agrees k r.going (r.next refl) r.verifiers refl r.certifies r.goes_on in
-      subst (λ (b : Bool). Finished l c.settle.new.mem z b (Certified c.certified-in.result)) (sym yes')
-      (finish_certified l s z c.args.effect c.settle.new.mem c.certified-in.result d.differ (c.certified-in.ensures.kept l z d.kept) d.kept);
+      subst (λ (b : Bool). Finished l c.settle.new.mem z b (Certified c.certified_in.result)) (sym yes')
+      (finish_certified l s z c.args.effect c.settle.new.mem c.certified_in.result d.differ (c.certified_in.ensures.kept l z d.kept) d.kept);
 }

@@ -18,7 +18,7 @@ returns-in-Added c = λ l s z added evicted agrees laid effect came went vs ss c
     let f = subst (λ (x : Effect). Effected l.secret x added evicted) c.in-Added.is effect in
     let x = f.0.element in
     let now = (subst (λ (xs : List Element). UnderWay l s xs) f.0.only came).0 in
-    c.add-added.ensures.laid l s z x agrees laid f.0.epoch (subst (λ (e : ℕ). s.certified ≤ e) f.0.epoch now.0) (subst (λ (e : ℕ). e < s.certified + l.epochs) f.0.epoch now.1) f.0.hash vs
+    c.add_added.ensures.laid l s z x agrees laid f.0.epoch (subst (λ (e : ℕ). s.certified ≤ e) f.0.epoch now.0) (subst (λ (e : ℕ). e < s.certified + l.epochs) f.0.epoch now.1) f.0.hash vs
     (ss ∙ one_added l.secret s.sums added evicted x f.0.only f.1) cs st
 
 pub returns-in-Evicted : goal.returns-in-Evicted
@@ -26,5 +26,5 @@ returns-in-Evicted c = λ l s z added evicted agrees laid effect came went vs ss
     let f = subst (λ (x : Effect). Effected l.secret x added evicted) c.in-Evicted.is effect in
     let x = f.1.element in
     let now = (subst (λ (xs : List Element). UnderWay l s xs) f.1.only went).0 in
-    c.add-evicted.ensures.laid l s z x agrees laid f.1.epoch (subst (λ (e : ℕ). s.certified ≤ e) f.1.epoch now.0) (subst (λ (e : ℕ). e < s.certified + l.epochs) f.1.epoch now.1) f.1.hash vs
+    c.add_evicted.ensures.laid l s z x agrees laid f.1.epoch (subst (λ (e : ℕ). s.certified ≤ e) f.1.epoch now.0) (subst (λ (e : ℕ). e < s.certified + l.epochs) f.1.epoch now.1) f.1.hash vs
     (ss ∙ one_evicted l.secret s.sums added evicted x f.0 f.1.only) cs st

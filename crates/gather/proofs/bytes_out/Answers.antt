@@ -23,9 +23,9 @@ loop-j-preserved c =
     let l = length_bytes_in ws in
     let k : at + i + 8 - (at + i) ≡ 8 = omega arith in
     let m : i + 8 ≡ 8 * (j + 1) = omega arith in
-    ap₂ (λ (n : ℕ) (x : List ℕ). put_mid (at + i) n x c.copy-from-slice.new.self) k c.loop-j.invariant
-    ∙ (paste_eight d at s i c.copy-from-slice.new.self (omega arith) (omega arith)
-    (c.copy-from-slice.ensures.after ∙ (c.to-le-bytes.ensures ∙ (eight_bytes (get_or ws j 0) ∙ sym (word_bytes ws j (omega arith)))))
+    ap₂ (λ (n : ℕ) (x : List ℕ). put_mid (at + i) n x c.copy_from_slice.new.self) k c.loop-j.invariant
+    ∙ (paste_eight d at s i c.copy_from_slice.new.self (omega arith) (omega arith)
+    (c.copy_from_slice.ensures.after ∙ (c.to_le_bytes.ensures ∙ (eight_bytes (get_or ws j 0) ∙ sym (word_bytes ws j (omega arith)))))
     ∙ ap (paste d at s) m)
 
 pub loop-i-init : goal.loop-i-init

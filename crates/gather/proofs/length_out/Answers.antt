@@ -8,8 +8,8 @@ unfolding le_bytes
 returns c =
     let n = c.args.n in
     record {
-      end = omega (arith, c.byte-out-next.ensures.end, c.byte-out.ensures.end);
+      end = omega (arith, c.byte_out-next.ensures.end, c.byte_out.ensures.end);
       wrote =
-          wrote_join c.args.out.now c.args.at (n % 256 ∷ []) (n / 256 % 256 ∷ []) c.byte-out-next.new.out c.byte-out.new.out c.byte-out-next.result c.byte-out.result
-          c.byte-out-next.ensures.wrote c.byte-out.ensures.wrote (omega arith);
+          wrote_join c.args.out.now c.args.at (n % 256 ∷ []) (n / 256 % 256 ∷ []) c.byte_out-next.new.out c.byte_out.new.out c.byte_out-next.result c.byte_out.result
+          c.byte_out-next.ensures.wrote c.byte_out.ensures.wrote (omega arith);
     }

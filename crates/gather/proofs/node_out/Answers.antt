@@ -12,22 +12,22 @@ returns c =
     let d = c.args.out.now in
     let at = c.args.at in
     let room = c.requires.room in
-    let d1 = c.byte-out-left.new.out in
-    let d2 = c.pointer-out-right.new.out in
-    let d3 = c.pointer-out.new.out in
-    let e1 = c.byte-out-left.result in
-    let e2 = c.pointer-out-right.result in
-    let e3 = c.pointer-out.result in
-    let k1 : length d1 ≡ length d = c.byte-out-left.auto.out in
-    let x1 = c.byte-out-left.ensures.end in
+    let d1 = c.byte_out-left.new.out in
+    let d2 = c.pointer_out-right.new.out in
+    let d3 = c.pointer_out.new.out in
+    let e1 = c.byte_out-left.result in
+    let e2 = c.pointer_out-right.result in
+    let e3 = c.pointer_out.result in
+    let k1 : length d1 ≡ length d = c.byte_out-left.auto.out in
+    let x1 = c.byte_out-left.ensures.end in
     let L = pointer_bytes (pointer_in (part 8 10 w)) in
     let R = pointer_bytes (pointer_in (part 18 10 w)) in
     record {
-      end = omega (arith, x1, c.pointer-out-right.ensures.end, c.pointer-out.ensures.end);
+      end = omega (arith, x1, c.pointer_out-right.ensures.end, c.pointer_out.ensures.end);
       wrote = λ s z.
           let p = s.shaped.pointers z in
           wrote_same d at (1 ∷ (L ++ R)) (merkle_bytes (rec_in w)) d3 e3 (sym (node_bytes w z))
-          (wrote_join d at (1 ∷ []) (L ++ R) d1 d3 e1 e3 c.byte-out-left.ensures.wrote
-          (wrote_join d1 e1 L R d2 d3 e2 e3 (c.pointer-out-right.ensures.wrote (p 0 (omega arith))) (c.pointer-out.ensures.wrote (p 1 (omega arith))) (omega (arith, x1, k1, room)))
+          (wrote_join d at (1 ∷ []) (L ++ R) d1 d3 e1 e3 c.byte_out-left.ensures.wrote
+          (wrote_join d1 e1 L R d2 d3 e2 e3 (c.pointer_out-right.ensures.wrote (p 0 (omega arith))) (c.pointer_out.ensures.wrote (p 1 (omega arith))) (omega (arith, x1, k1, room)))
           (omega (arith, room)));
     }

@@ -12,10 +12,10 @@ use Rattle.gather.proofs.pointer_out.Goals.{then-pointer-eq2, else-pointer-eq2}
 
 pub returns-then-pointer-eq0 : goal.returns-then-pointer-eq0
 returns-then-pointer-eq0 c = record {
-  end = omega (arith, c.byte-out.ensures.end);
+  end = omega (arith, c.byte_out.ensures.end);
   wrote = λ _.
       let w = c.args.pointer.now in
-      wrote_same c.args.out.now c.args.at (0 ∷ []) (pointer_bytes (pointer_in w)) c.byte-out.new.out c.byte-out.result (sym (absent_bytes w c.if-pointer-eq0.true)) c.byte-out.ensures.wrote;
+      wrote_same c.args.out.now c.args.at (0 ∷ []) (pointer_bytes (pointer_in w)) c.byte_out.new.out c.byte_out.result (sym (absent_bytes w c.if-pointer-eq0.true)) c.byte_out.ensures.wrote;
 }
 
 pub returns : goal.returns
@@ -26,38 +26,38 @@ returns c =
     let at = c.args.at in
     let b = c.if-pointer-eq2.by_blum in
     let n = c.min-len.result in
-    let d1 = c.byte-out-tag.new.out in
-    let d2 = c.byte-out-path.new.out in
-    let d3 = c.sized-path-out-hash.new.out in
-    let d4 = c.bytes-out.new.out in
-    let e1 = c.byte-out-tag.result in
-    let e2 = c.byte-out-path.result in
-    let e3 = c.sized-path-out-hash.result in
-    let e4 = c.bytes-out.result in
-    let k1 : length d1 ≡ length d = c.byte-out-tag.auto.out in
-    let k2 : length d2 ≡ length d1 = c.byte-out-path.auto.out in
-    let x1 = c.byte-out-tag.ensures.end in
-    let x2 = c.byte-out-path.ensures.end in
+    let d1 = c.byte_out-tag.new.out in
+    let d2 = c.byte_out-path.new.out in
+    let d3 = c.sized_path_out-hash.new.out in
+    let d4 = c.bytes_out.new.out in
+    let e1 = c.byte_out-tag.result in
+    let e2 = c.byte_out-path.result in
+    let e3 = c.sized_path_out-hash.result in
+    let e4 = c.bytes_out.result in
+    let k1 : length d1 ≡ length d = c.byte_out-tag.auto.out in
+    let k2 : length d2 ≡ length d1 = c.byte_out-path.auto.out in
+    let x1 = c.byte_out-tag.ensures.end in
+    let x2 = c.byte_out-path.ensures.end in
     let room = c.requires.room in
     let ps = part 2 4 w in
     let blum : b ≡ pick (eqb (get_or w 0 0) 2) 1 0 =
     elim c.if-pointer-eq2.branch [
-      | then-pointer-eq2 v ↦ v.by-blum-is ∙ ap (λ t. pick t 1 0) (sym (eq-eqb (get_or w 0 0) 2 v.if-pointer-eq2.true))
-      | else-pointer-eq2 v ↦ v.by-blum-is ∙ ap (λ t. pick t 1 0) (sym (ne_eqb (get_or w 0 0) 2 v.if-pointer-eq2.false))
+      | then-pointer-eq2 v ↦ v.by_blum-is ∙ ap (λ t. pick t 1 0) (sym (eq-eqb (get_or w 0 0) 2 v.if-pointer-eq2.true))
+      | else-pointer-eq2 v ↦ v.by_blum-is ∙ ap (λ t. pick t 1 0) (sym (ne_eqb (get_or w 0 0) 2 v.if-pointer-eq2.false))
     ] in
     let S = sized_bytes (path_in n ps) in
     let B = take 32 (bytes_in (part 6 4 w)) in
     record {
-      end = omega (arith, x1, x2, c.sized-path-out-hash.ensures.end, c.bytes-out.ensures.end, c.min-len.ensures);
+      end = omega (arith, x1, x2, c.sized_path_out-hash.ensures.end, c.bytes_out.ensures.end, c.min-len.ensures);
       wrote = λ packs.
           let four : length ps ≡ 4 = length_part 2 4 w (omega (arith, c.requires.ten)) in
           let few : get_or w 1 0 ≤ 256 = omega (arith, packs.0, four) in
           let nn : n ≡ get_or w 1 0 = omega (arith, c.min-len.ensures) in
           wrote_same d at (1 ∷ (b ∷ (S ++ B))) (pointer_bytes (pointer_in w)) d4 e4
           (ap (λ (x : ℕ). 1 ∷ (x ∷ (S ++ B))) blum ∙ ap (λ (x : ℕ). 1 ∷ (pick (eqb (get_or w 0 0) 2) 1 0 ∷ (sized_bytes (path_in x ps) ++ B))) nn
-          ∙ present_bytes w c.requires.ten (λ i. (c.type-inv.pointer i).fits) c.if-pointer-eq0.false)
-          (wrote_join d at (1 ∷ []) (b ∷ (S ++ B)) d1 d4 e1 e4 c.byte-out-tag.ensures.wrote
-          (wrote_join d1 e1 (b ∷ []) (S ++ B) d2 d4 e2 e4 c.byte-out-path.ensures.wrote
-          (wrote_join d2 e2 S B d3 d4 e3 e4 c.sized-path-out-hash.ensures.wrote c.bytes-out.ensures.wrote (omega (arith, x1, x2, k1, k2, room)))
+          ∙ present_bytes w c.requires.ten (λ i. (c.type_inv.pointer i).fits) c.if-pointer-eq0.false)
+          (wrote_join d at (1 ∷ []) (b ∷ (S ++ B)) d1 d4 e1 e4 c.byte_out-tag.ensures.wrote
+          (wrote_join d1 e1 (b ∷ []) (S ++ B) d2 d4 e2 e4 c.byte_out-path.ensures.wrote
+          (wrote_join d2 e2 S B d3 d4 e3 e4 c.sized_path_out-hash.ensures.wrote c.bytes_out.ensures.wrote (omega (arith, x1, x2, k1, k2, room)))
           (omega (arith, x1, k1, room))) (omega (arith, room)));
     }

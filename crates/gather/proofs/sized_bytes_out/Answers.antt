@@ -14,9 +14,9 @@ returns c =
     let l = length_bytes_in c.args.words.now in
     let lt : length t ≡ n = length-take-le n (bytes_in c.args.words.now) (omega arith) in
     record {
-      end = omega (arith, c.length-out-next.ensures.end, c.bytes-out.ensures.end);
+      end = omega (arith, c.length_out-next.ensures.end, c.bytes_out.ensures.end);
       wrote =
-          wrote_same d at (le_bytes 2 n ++ t) (le_bytes 2 (length t) ++ t) c.bytes-out.new.out c.bytes-out.result (ap (λ (k : ℕ). le_bytes 2 k ++ t) (sym lt))
-          (wrote_join d at (le_bytes 2 n) t c.length-out-next.new.out c.bytes-out.new.out c.length-out-next.result c.bytes-out.result
-          c.length-out-next.ensures.wrote c.bytes-out.ensures.wrote (omega arith));
+          wrote_same d at (le_bytes 2 n ++ t) (le_bytes 2 (length t) ++ t) c.bytes_out.new.out c.bytes_out.result (ap (λ (k : ℕ). le_bytes 2 k ++ t) (sym lt))
+          (wrote_join d at (le_bytes 2 n) t c.length_out-next.new.out c.bytes_out.new.out c.length_out-next.result c.bytes_out.result
+          c.length_out-next.ensures.wrote c.bytes_out.ensures.wrote (omega arith));
     }

@@ -20,7 +20,7 @@ chain-preserved c =
     let i = link - 1 in
     let t = says_at c.args.len c.args.bits.now c.args.slots.now in
     let w : i * 190 + 190 - i * 190 ≡ 190 = omega arith in
-    let no : t i ≡ false = ap (λ (x : ℕ). says c.args.len c.args.bits.now (part (i * 190) x c.args.slots.now)) (sym w) ∙ sym c.if-slot-says.ensures in (
+    let no : t i ≡ false = ap (λ (x : ℕ). says c.args.len c.args.bits.now (part (i * 190) x c.args.slots.now)) (sym w) ∙ sym c.if-slot_says.ensures in (
       c.chain.invariant.0,
       λ is h.
           let v = c.chain.invariant.1 is h in
@@ -51,15 +51,15 @@ returns-then-link-eq0 c = λ is h l.
     (λ z. absurd (chain_over c.args.n c.args.index.now c.chain.link (drop c.chain.k is) v.0 z.1))
     c.then-link-eq0.either
 
-pub returns-then-slot-says : goal.returns-then-slot-says
-returns-then-slot-says c = λ is h l.
+pub returns-then-slot_says : goal.returns-then-slot_says
+returns-then-slot_says c = λ is h l.
     let v = c.chain.invariant.1 is h in
     let k = c.chain.k in
     let link = c.chain.link in
     let i = link - 1 in
     let t = says_at c.args.len c.args.bits.now c.args.slots.now in
     let w : i * 190 + 190 - i * 190 ≡ 190 = omega arith in
-    let yes' : t i ≡ true = ap (λ (x : ℕ). says c.args.len c.args.bits.now (part (i * 190) x c.args.slots.now)) (sym w) ∙ sym c.if-slot-says.ensures in
+    let yes' : t i ≡ true = ap (λ (x : ℕ). says c.args.len c.args.bits.now (part (i * 190) x c.args.slots.now)) (sym w) ∙ sym c.if-slot_says.ensures in
     let s = chain_step c.args.n c.args.index.now link (drop k is) v.0 c.if-link-eq0.false in
     let d = drop_head is k i (drop 1 (drop k is)) c.args.n s.0 in
     let e = position_hit t is k c.args.n d.0 (ap t d.1 ∙ yes') v.1 in

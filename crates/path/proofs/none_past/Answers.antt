@@ -12,13 +12,13 @@ returns-then-whole-bits-2 c = record {
 pub returns-then-bits-whole-ne0 : goal.returns-then-bits-whole-ne0
 returns-then-bits-whole-ne0 c = record {
   packs = λ e. absurd (false≢true e);
-  all = λ p. absurd (c.if-bits-whole-ne0.true (packs_rest c.args.len c.args.bits.now (omega arith) (λ i. (c.type-inv.bits i).fits) p).0);
+  all = λ p. absurd (c.if-bits-whole-ne0.true (packs_rest c.args.len c.args.bits.now (omega arith) (λ i. (c.type_inv.bits i).fits) p).0);
 }
 
 pub returns-then-bits-i-ne0 : goal.returns-then-bits-i-ne0
 returns-then-bits-i-ne0 c = record {
   packs = λ e. absurd (false≢true e);
-  all = λ p. absurd (c.if-bits-i-ne0.true ((packs_rest c.args.len c.args.bits.now (omega arith) (λ i. (c.type-inv.bits i).fits) p).1 c.loop-i.i (omega arith) (omega arith)));
+  all = λ p. absurd (c.if-bits-i-ne0.true ((packs_rest c.args.len c.args.bits.now (omega arith) (λ i. (c.type_inv.bits i).fits) p).1 c.loop-i.i (omega arith) (omega arith)));
 }
 
 pub returns : goal.returns

@@ -31,13 +31,13 @@ returns-in-EvictBlumMerkle c =
 pub returns-in-Get : goal.returns-in-Get
 unfolding good_entry
 returns-in-Get c =
-    let t = told_in c.args.verifiers c.of-call.result c.args.entry _ c.in-Get.is (λ l v. c.of-call.ensures.some, c.of-call.ensures.short) in
+    let t = told_in c.args.verifiers c.of_call.result c.args.entry _ c.in-Get.is (λ l v. c.of_call.ensures.some, c.of_call.ensures.short) in
     record { some = t.0; packed = t.1 }
 
 pub returns-in-Set : goal.returns-in-Set
 unfolding good_entry
 returns-in-Set c =
-    let t = told_in c.args.verifiers c.of-call-in-Set.result c.args.entry _ c.in-Set.is (λ l v. c.of-call-in-Set.ensures.some, c.of-call-in-Set.ensures.short) in
+    let t = told_in c.args.verifiers c.of_call-in-Set.result c.args.entry _ c.in-Set.is (λ l v. c.of_call-in-Set.ensures.some, c.of_call-in-Set.ensures.short) in
     record { some = t.0; packed = t.1 }
 
 pub returns-in-AddBlum : goal.returns-in-AddBlum

@@ -18,6 +18,6 @@ returns c = λ sl nk.
     let z = node_tag w nk in
     let ten : a + 10 - a ≡ 10 = omega arith in
     let e : part a (a + 10 - a) m ≡ part (8 + 10 * d) 10 w = ap (λ (k : ℕ). part a k m) ten ∙ sym (part_part (8 + 10 * d) 10 b 190 m (omega (arith, c.requires.two))) in
-    c.child-in.ensures (subst PointerPacks (sym e) (sl.shaped.pointers z d c.requires.two))
+    c.child_in.ensures (subst PointerPacks (sym e) (sl.shaped.pointers z d c.requires.two))
     ∙ ap pointer_in e
     ∙ sym (pointer_at w d c.requires.two z)

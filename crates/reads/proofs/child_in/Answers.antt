@@ -13,8 +13,8 @@ pub returns : goal.returns
 returns c = λ _.
     let s = c.args.s.now in
     let b = eqb (get_or s 0 0) 2 in
-    let h = c.copy-from-slice.new.self in
+    let h = c.copy_from_slice.new.self in
     let e = c.in-Some.ensures.path in
     ap₂ (λ (n : ℕ) (ws : List ℕ). present (path_in n ws) (number_in h) b) e.0 e.1
-    ∙ ap (λ (ws : List ℕ). present (path_in (get_or s 1 0) (part 2 4 s)) (number_in ws) b) c.copy-from-slice.ensures.after
+    ∙ ap (λ (ws : List ℕ). present (path_in (get_or s 1 0) (part 2 4 s)) (number_in ws) b) c.copy_from_slice.ensures.after
     ∙ sym (pointer_some s c.if-s-eq0.false)

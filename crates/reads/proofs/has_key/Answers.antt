@@ -20,6 +20,6 @@ returns c = λ s.
     let ne : get_or w 0 0 ≡ 0 → ⊥ = λ z. c.if-mem-a-eq0.false (sym (tag_at a m) ∙ z) in
     let few : get_or w 8 0 ≤ 64 = (s.shaped.room ne).0 in
     let l : c.min-len.result ≡ get_or w 8 0 = omega (arith, c.min-len.ensures, few, word_at a 8 m (omega arith)) in
-    c.same-bytes.ensures
+    c.same_bytes.ensures
     ∙ ap₂ (λ (n : ℕ) (ws : List ℕ). same_bytes (take n (bytes_in ws)) k) l (part_at a 9 17 m (omega arith) (omega arith))
     ∙ sym (data_key w k ne)

@@ -30,17 +30,17 @@ returns-then-mem-a-ne0 c = λ ss H s.
     let w = part b 190 c.args.mem.now in
     sym (ap (λ (k : Bool). not k && (points_at_merkle ss (children_of (rec_in w)).left || points_at_merkle ss (children_of (rec_in w)).right)) (data_is w (λ z. c.if-mem-a-ne0.true (sym (tag_at b c.args.mem.now) ∙ z))))
 
-pub returns-then-points-at-merkle : goal.returns-then-points-at-merkle
-returns-then-points-at-merkle c = λ ss H s.
+pub returns-then-points_at_merkle : goal.returns-then-points_at_merkle
+returns-then-points_at_merkle c = λ ss H s.
     let b = 2 * c.args.n + c.args.i * 190 in
     let m = c.args.mem.now in
     let z = c.if-mem-a-ne0.false in
-    sym (two_pointers ss b m z ∙ ap (λ (k : Bool). k || points_at_merkle ss (pointer_in (part (b + 18) 10 m))) (sym (c.if-points-at-merkle.ensures ss H (packs b m z s).0)))
+    sym (two_pointers ss b m z ∙ ap (λ (k : Bool). k || points_at_merkle ss (pointer_in (part (b + 18) 10 m))) (sym (c.if-points_at_merkle.ensures ss H (packs b m z s).0)))
 
 pub returns : goal.returns
 returns c = λ ss H s.
     let b = 2 * c.args.n + c.args.i * 190 in
     let m = c.args.mem.now in
     let z = c.if-mem-a-ne0.false in
-    c.points-at-merkle-2.ensures ss H (packs b m z s).1
-    ∙ sym (two_pointers ss b m z ∙ ap (λ (k : Bool). k || points_at_merkle ss (pointer_in (part (b + 18) 10 m))) (sym (c.if-points-at-merkle.ensures ss H (packs b m z s).0)))
+    c.points_at_merkle-2.ensures ss H (packs b m z s).1
+    ∙ sym (two_pointers ss b m z ∙ ap (λ (k : Bool). k || points_at_merkle ss (pointer_in (part (b + 18) 10 m))) (sym (c.if-points_at_merkle.ensures ss H (packs b m z s).0)))

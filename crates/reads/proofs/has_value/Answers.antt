@@ -19,7 +19,7 @@ returns-then-kind-ne0 c = λ _.
     let w = slot_at c.args.n m c.args.i in
     ap (λ (x : ℕ). not (eqb x 2)) (sym (tag_at a m))
     ∙ value_none w (λ z. c.if-kind-ne0.true (sym (tag_at a m) ∙ z))
-    ∙ asked w c.args.value None c.in-default.is
+    ∙ asked w c.args.value None c.in_default.is
 
 pub returns-else-kind-ne0 : goal.returns-else-kind-ne0
 returns-else-kind-ne0 c = λ _.
@@ -45,7 +45,7 @@ returns c = λ s.
     let two : get_or w 0 0 ≡ 2 = tag_at a m ∙ c.if-kind-ne2.false in
     let few : get_or w 17 0 ≤ 1024 = (s.shaped.room (λ z. omega arith)).1 in
     let l : c.min-len.result ≡ get_or w 17 0 = omega (arith, c.min-len.ensures, few, word_at a 17 m (omega arith)) in
-    c.same-bytes.ensures
+    c.same_bytes.ensures
     ∙ ap₂ (λ (n : ℕ) (ws : List ℕ). same_bytes (take n (bytes_in ws)) t) l (part_at a 18 146 m (omega arith) (omega arith))
     ∙ sym (value_some w t two)
     ∙ asked w c.args.value (Some c.in-Some.v) c.in-Some.is

@@ -26,5 +26,5 @@ returns c =
     let e : part (a + 146) (a + 150 - (a + 146)) m ≡ part 146 4 w = ap (λ (x : ℕ). part (a + 146) x m) k ∙ sym (part_part 146 4 a 190 m (omega arith)) in
     record {
       known = sym (eq-eqb (get_or w 150 0) 1 one);
-      hash = λ s. ap number_in (c.copy-from-slice.ensures.after ∙ e) ∙ s.marked one;
+      hash = λ s. ap number_in (c.copy_from_slice.ensures.after ∙ e) ∙ s.marked one;
     }

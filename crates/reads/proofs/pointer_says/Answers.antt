@@ -29,8 +29,8 @@ returns c = λ k o.
     let n = c.args.len in
     let e : get_or s 1 0 ≡ n = c.if-s-len.false in
     let four : length (part 2 4 s) ≡ length ws = simp (length-take, length-drop) (omega (arith, c.requires.ten, c.requires.four)) in
-    let fs : Fit s = λ i. (c.type-inv.s i).fits in
-    c.same-words.ensures
-    ∙ same_packed n (part 2 4 s) ws four (subst (λ (x : ℕ). Packs x (part 2 4 s)) e k) o (fit_part 2 4 s fs) (λ i. (c.type-inv.bits i).fits)
+    let fs : Fit s = λ i. (c.type_inv.s i).fits in
+    c.same_words.ensures
+    ∙ same_packed n (part 2 4 s) ws four (subst (λ (x : ℕ). Packs x (part 2 4 s)) e k) o (fit_part 2 4 s fs) (λ i. (c.type_inv.bits i).fits)
     ∙ ap (λ (x : ℕ). same_bytes (path_in x (part 2 4 s)) (path_in n ws)) (sym e)
     ∙ sym (points_some (path_in n ws) s c.if-s-eq0.false)

@@ -32,13 +32,13 @@ returns-then-mem-a-eq0 c = λ ss H k. sym (merkle_none ss (part c.args.a 10 c.ar
 pub returns-then-i-n : goal.returns-then-i-n
 returns-then-i-n c = λ ss H k.
     sym (merkle_away ss (part c.args.a 10 c.args.mem.now) (λ z. c.if-mem-a-eq0.false (sym (first c.args.a c.args.mem.now) ∙ z))
-    ((found c.args.n c.args.salt c.args.a c.find-words-i.result c.args.mem.now ss c.find-words-i.ensures.found H k).none c.if-i-n.true))
+    ((found c.args.n c.args.salt c.args.a c.find_words-i.result c.args.mem.now ss c.find_words-i.ensures.found H k).none c.if-i-n.true))
 
 pub returns : goal.returns
 returns c = λ ss H k.
     let n = c.args.n in
     let m = c.args.mem.now in
-    let i = c.find-words-i.result in
+    let i = c.find_words-i.result in
     ap (λ (x : ℕ). eqb x 1) (sym (get_d_part (2 * n + i * 190) 190 m 1 (omega arith)))
     ∙ sym (merkle_found ss (part c.args.a 10 m) (stored_at n m i) (λ z. c.if-mem-a-eq0.false (sym (first c.args.a m) ∙ z))
-    ((found c.args.n c.args.salt c.args.a c.find-words-i.result c.args.mem.now ss c.find-words-i.ensures.found H k).some c.if-i-n.false))
+    ((found c.args.n c.args.salt c.args.a c.find_words-i.result c.args.mem.now ss c.find_words-i.ensures.found H k).some c.if-i-n.false))

@@ -6,5 +6,5 @@ use Rattle.sha256.proofs.add_constants.Goals as goal
 pub returns : goal.returns
 returns c =
     add_sixteen_is c.args.t round_constants c.args.w.a c.args.w.b c.args.w.c c.args.w.d
-    c.add-four.result c.add-four-2.result c.add-four-3.result c.add-four-4.result (omega arith) (omega arith) (omega arith)
-    c.add-four.ensures c.add-four-2.ensures c.add-four-3.ensures c.add-four-4.ensures
+    c.add_four.result c.add_four-2.result c.add_four-3.result c.add_four-4.result (omega arith) (omega arith) (omega arith)
+    c.add_four.ensures c.add_four-2.ensures c.add_four-3.ensures c.add_four-4.ensures

@@ -7,4 +7,4 @@ pub returns : goal.returns
 unfolding big_sigma_1
 returns c =
     let h : c.args.x < 2 ^ 32 = omega arith in
-    lxor_three c.rotate-right.type-inv c.rotate-right-2.type-inv c.rotate-right-3.type-inv (c.rotate-right.ensures ∙ rotr_is 6 26 c.args.x h) (c.rotate-right-2.ensures ∙ rotr_is 11 21 c.args.x h) (c.rotate-right-3.ensures ∙ rotr_is 25 7 c.args.x h)
+    lxor_three c.rotate_right.type_inv c.rotate_right-2.type_inv c.rotate_right-3.type_inv (c.rotate_right.ensures ∙ rotr_is 6 26 c.args.x h) (c.rotate_right-2.ensures ∙ rotr_is 11 21 c.args.x h) (c.rotate_right-3.ensures ∙ rotr_is 25 7 c.args.x h)

@@ -6,7 +6,7 @@ use Rattle.sha256.proofs.block_words.Goals as goal
 pub returns : goal.returns
 returns c =
     record {
-      words = sixteen_words c.args.block.now c.four_words.result c.four-words-2.result c.four-words-3.result c.four-words-4.result c.requires
-          c.four_words.ensures c.four-words-2.ensures c.four-words-3.ensures c.four-words-4.ensures;
+      words = sixteen_words c.args.block.now c.four_words.result c.four_words-2.result c.four_words-3.result c.four_words-4.result c.requires
+          c.four_words.ensures c.four_words-2.ensures c.four_words-3.ensures c.four_words-4.ensures;
       count = simp length-append (omega arith);
     }

@@ -11,5 +11,5 @@ loop-j-init c = refl
 
 pub loop-j-preserved : goal.loop-j-preserved
 loop-j-preserved c =
-    compress_more c.loop-j.j (64 * c.loop-j.j + 64 - 64 * c.loop-j.j) (state_of c.loop-j.s) (state_of c.compress-block-s.result) c.args.message.now
-    c.loop-j.invariant c.compress-block-s.ensures (omega arith)
+    compress_more c.loop-j.j (64 * c.loop-j.j + 64 - 64 * c.loop-j.j) (state_of c.loop-j.s) (state_of c.compress_block-s.result) c.args.message.now
+    c.loop-j.invariant c.compress_block-s.ensures (omega arith)

@@ -15,5 +15,5 @@ returns c =
     record {
       bytes = digest_bytes m s _ c.hash-s.ensures w l;
       number = digest_number m s _ c.hash-s.ensures l;
-      limbs = four_limbs c.limb.type-inv c.limb-2.type-inv c.limb-3.type-inv c.limb-4.type-inv;
+      limbs = four_limbs c.limb.type_inv c.limb-2.type_inv c.limb-3.type_inv c.limb-4.type_inv;
     }

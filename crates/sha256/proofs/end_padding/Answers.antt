@@ -5,5 +5,5 @@ use Rattle.sha256.proofs.end_padding.Goals as goal
 
 pub returns : goal.returns
 returns c =
-    close_end c.args.block c.copy-from-slice.new.self (bit_length_bytes c.args.n) (omega arith)
-    (c.copy-from-slice.ensures.after ∙ c.to-be-bytes-bits.ensures ∙ bit_length_is c.args.n)
+    close_end c.args.block c.copy_from_slice.new.self (bit_length_bytes c.args.n) (omega arith)
+    (c.copy_from_slice.ensures.after ∙ c.to_be_bytes-bits.ensures ∙ bit_length_is c.args.n)

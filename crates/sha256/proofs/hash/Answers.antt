@@ -4,5 +4,5 @@ use Rattle.sha256.proofs.hash.Goals as goal
 
 pub returns : goal.returns
 returns c =
-    final_state_is c.args.message.now (state_of c.compress-whole-blocks.result) (state_of c.compress-tail.result)
-    c.compress-whole-blocks.ensures c.compress-tail.ensures
+    final_state_is c.args.message.now (state_of c.compress_whole_blocks.result) (state_of c.compress_tail.result)
+    c.compress_whole_blocks.ensures c.compress_tail.ensures

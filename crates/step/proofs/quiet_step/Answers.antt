@@ -48,9 +48,9 @@ returns-in-VerifyEpoch c = record {
       (c.verify_epoch.ensures.step c.args.n t v k);
 }
 
-pub returns-in-default : goal.returns-in-default
-returns-in-default c = record {
+pub returns-in_default : goal.returns-in_default
+returns-in_default c = record {
   same = λ _. refl;
   step = λ t v k room parts timely quiet.
-      absurd (no_other c.args.entry c.in-default.not-AddMerkle c.in-default.not-EvictMerkle c.in-default.not-NextEpoch c.in-default.not-VerifyEpoch c.in-default.not-Get c.in-default.not-Set quiet);
+      absurd (no_other c.args.entry c.in_default.not-AddMerkle c.in_default.not-EvictMerkle c.in_default.not-NextEpoch c.in_default.not-VerifyEpoch c.in_default.not-Get c.in_default.not-Set quiet);
 }

@@ -14,47 +14,47 @@ use Rattle.step.proofs.Quiet.{err_fails, err_stepped, quiet_done, blum_done, sum
 use Rattle.step.proofs.step.Goals as goal
 use Rattle.slot.specs.Layout.{bytes_in}
 
-pub returns-in-err-quiet-step : goal.returns-in-err-quiet-step
-returns-in-err-quiet-step c = record {
-  same = λ _. c.in-err-quiet-step.ensures.same refl;
+pub returns-in_err-quiet_step : goal.returns-in_err-quiet_step
+returns-in_err-quiet_step c = record {
+  same = λ _. c.in_err-quiet_step.ensures.same refl;
   step = λ v k room parts timely.
-      let none = sums_none_of c.args.entry c.in-default.not-AddBlum c.in-default.not-EvictBlum c.in-default.not-EvictBlumMerkle in
-      err_stepped _ _ _ _ _ c.from-residual-in-err-quiet-step.ensures.0
-      (err_fails c.args.n c.quiet-step.new.block (Err c.in-err-quiet-step.field-0.0) _ refl (c.in-err-quiet-step.ensures.step c.args.verifier v k room parts timely none));
+      let none = sums_none_of c.args.entry c.in_default.not-AddBlum c.in_default.not-EvictBlum c.in_default.not-EvictBlumMerkle in
+      err_stepped _ _ _ _ _ c.from_residual-in_err-quiet_step.ensures.0
+      (err_fails c.args.n c.quiet_step.new.block (Err c.in_err-quiet_step.field-0.0) _ refl (c.in_err-quiet_step.ensures.step c.args.verifier v k room parts timely none));
 }
 
-pub returns-in-ok-quiet-step : goal.returns-in-ok-quiet-step
-returns-in-ok-quiet-step c = record {
+pub returns-in_ok-quiet_step : goal.returns-in_ok-quiet_step
+returns-in_ok-quiet_step c = record {
   same = λ e. absurd (both_ways true e refl);
   step = λ v k room parts timely.
-      let none = sums_none_of c.args.entry c.in-default.not-AddBlum c.in-default.not-EvictBlum c.in-default.not-EvictBlumMerkle in
-      quiet_done c.args.n c.quiet-step.new.block _ c.args.verifier v c.args.entry (Ok c.in-ok-quiet-step.field-0) none refl
-      (c.in-ok-quiet-step.ensures.step c.args.verifier v k room parts timely none);
+      let none = sums_none_of c.args.entry c.in_default.not-AddBlum c.in_default.not-EvictBlum c.in_default.not-EvictBlumMerkle in
+      quiet_done c.args.n c.quiet_step.new.block _ c.args.verifier v c.args.entry (Ok c.in_ok-quiet_step.field-0) none refl
+      (c.in_ok-quiet_step.ensures.step c.args.verifier v k room parts timely none);
 }
 
-pub returns-in-err-add-blum : goal.returns-in-err-add-blum
+pub returns-in_err-add_blum : goal.returns-in_err-add_blum
 unfolding entry_code
-returns-in-err-add-blum c = record {
-  same = λ _. c.in-err-add-blum.ensures.same refl;
+returns-in_err-add_blum c = record {
+  same = λ _. c.in_err-add_blum.ensures.same refl;
   step = λ v k room parts timely.
       let is = ap entry_of c.in-AddBlum.is in
       let late = subst (Timely v) c.in-AddBlum.is timely in
-      subst (λ (x : rules.Entry). Stepped c.args.n c.add_blum.new.block (bytes_in c.args.secret.now) c.from-residual.result (rules.verifier_step c.args.verifier v x)) (sym is)
-      (err_stepped _ _ _ _ _ c.from-residual.ensures.0
-      (err_fails c.args.n c.add_blum.new.block (Err c.in-err-add-blum.field-0.0) _ refl (c.in-err-add-blum.ensures.step c.args.verifier c.in-AddBlum.verifier v k (room (ap is_add is)) late.0)));
+      subst (λ (x : rules.Entry). Stepped c.args.n c.add_blum.new.block (bytes_in c.args.secret.now) c.from_residual.result (rules.verifier_step c.args.verifier v x)) (sym is)
+      (err_stepped _ _ _ _ _ c.from_residual.ensures.0
+      (err_fails c.args.n c.add_blum.new.block (Err c.in_err-add_blum.field-0.0) _ refl (c.in_err-add_blum.ensures.step c.args.verifier c.in-AddBlum.verifier v k (room (ap is_add is)) late.0)));
 }
 
-pub returns-in-ok-add-blum : goal.returns-in-ok-add-blum
+pub returns-in_ok-add_blum : goal.returns-in_ok-add_blum
 unfolding entry_code
-returns-in-ok-add-blum c = record {
+returns-in_ok-add_blum c = record {
   same = λ e. absurd (both_ways true e refl);
   step = λ v k room parts timely.
       let is = ap entry_of c.in-AddBlum.is in
       let late = subst (Timely v) c.in-AddBlum.is timely in
       let part = subst EntryParts c.in-AddBlum.is parts in
       let secret = bytes_in c.args.secret.now in
-      let hash = c.element-hash-hash.ensures late.2 ∙ ap (λ (bs : List ℕ). hash_of (secret ++ bs)) (part.1 late.1) in
-      subst (λ (x : rules.Entry). Goes c.args.n c.add_blum.new.block secret (Added c.in-AddBlum.timestamp.epoch c.element-hash-hash.result) (rules.verifier_step c.args.verifier v x)) (sym is)
-      (blum_done c.args.n c.add_blum.new.block secret c.element-hash-hash.result c.args.verifier v (record_of c.in-AddBlum.record) (timestamp_of c.in-AddBlum.timestamp) c.in-AddBlum.verifier (Ok c.in-ok-add-blum.field-0) refl
-      (c.in-ok-add-blum.ensures.step c.args.verifier c.in-AddBlum.verifier v k (room (ap is_add is)) late.0) hash);
+      let hash = c.element_hash-hash.ensures late.2 ∙ ap (λ (bs : List ℕ). hash_of (secret ++ bs)) (part.1 late.1) in
+      subst (λ (x : rules.Entry). Goes c.args.n c.add_blum.new.block secret (Added c.in-AddBlum.timestamp.epoch c.element_hash-hash.result) (rules.verifier_step c.args.verifier v x)) (sym is)
+      (blum_done c.args.n c.add_blum.new.block secret c.element_hash-hash.result c.args.verifier v (record_of c.in-AddBlum.record) (timestamp_of c.in-AddBlum.timestamp) c.in-AddBlum.verifier (Ok c.in_ok-add_blum.field-0) refl
+      (c.in_ok-add_blum.ensures.step c.args.verifier c.in-AddBlum.verifier v k (room (ap is_add is)) late.0) hash);
 }

@@ -15,23 +15,23 @@ returns c =
     let n = c.args.n in
     let salt = c.args.salt in
     let m = c.args.mem.now in
-    let i = c.first-free-i.result in
+    let i = c.first_free-i.result in
     let a = 2 * n + i * 190 in
-    let w = c.write-data.new.slot in
+    let w = c.write_data.new.slot in
     let room : a + 190 ≤ length m = omega (arith, c.requires.room) in
     let q : a + 190 - a ≡ 190 = omega arith in
-    let size : length w ≡ 190 = c.write-data.auto.slot ∙ ap (λ (k : ℕ). length (part a k m)) q ∙ length_part a 190 m room in
+    let size : length w ≡ 190 = c.write_data.auto.slot ∙ ap (λ (k : ℕ). length (part a k m)) q ∙ length_part a 190 m room in
     let e : put a (a + 190 - a) m w ≡ put a 190 m w = ap (λ (k : ℕ). put a k m w) q in
     record {
       same = λ h. absurd (omega arith);
-      full = λ ss H. c.first-free-i.ensures.full salt ss H;
+      full = λ ss H. c.first_free-i.ensures.full salt ss H;
       stored = λ ss H p h.
-          let f = holds_free n salt m ss H i (c.first-free-i.ensures.free h) w room size in
+          let f = holds_free n salt m ss H i (c.first_free-i.ensures.free h) w room size in
           let m1 = put a (a + 190 - a) m w in
           let at : slot_at n m1 i ≡ w = ap (λ (l : List ℕ). slot_at n l i) e ∙ f.2 in
-          let new : stored_at n m1 i ≡ record { rec = data_record c.args.key.now (option_map (λ v. v.now) c.args.value); by_merkle = c.args.by_merkle } = ap stored_in at ∙ (c.write-data.ensures p).1 in
-          subst (λ (x : Stored). Added n salt c.link-first.new.mem ss x i) new
-          (c.link-first.ensures ss (subst (λ (l : List ℕ). Holds n salt l ss) (sym e) f.0) (ap (λ (l : List ℕ). get_or l (n - 1) 0) e ∙ f.1) (subst Slot (sym at) (c.write-data.ensures p).0));
+          let new : stored_at n m1 i ≡ record { rec = data_record c.args.key.now (option_map (λ v. v.now) c.args.value); by_merkle = c.args.by_merkle } = ap stored_in at ∙ (c.write_data.ensures p).1 in
+          subst (λ (x : Stored). Added n salt c.link_first.new.mem ss x i) new
+          (c.link_first.ensures ss (subst (λ (l : List ℕ). Holds n salt l ss) (sym e) f.0) (ap (λ (l : List ℕ). get_or l (n - 1) 0) e ∙ f.1) (subst Slot (sym at) (c.write_data.ensures p).0));
     }
 
 pub returns-then-i-n : goal.returns-then-i-n
@@ -39,6 +39,6 @@ returns-then-i-n c = record {
   same = λ h. refl;
   full = λ ss H.
       let n = c.args.n in
-      le-leb n n (omega arith) ∙ sym (le-leb n c.first-free-i.result (omega arith)) ∙ c.first-free-i.ensures.full c.args.salt ss H;
+      le-leb n n (omega arith) ∙ sym (le-leb n c.first_free-i.result (omega arith)) ∙ c.first_free-i.ensures.full c.args.salt ss H;
   stored = λ ss H p h. absurd (omega arith);
 }

@@ -21,5 +21,5 @@ returns c =
     record {
       home = ap (λ (h : ℕ). h % (c.args.n - 1)) (sym (ap (mixed (bit_or c.args.salt 1) c.loop-w.mixed) (drop_all c.loop-w.w-index ws (omega arith))) ∙ c.loop-w.invariant);
       within = mod_below c.loop-w.mixed (c.args.n - 1) (omega arith);
-      fit = λ i. (c.type-inv.bits i).fits;
+      fit = λ i. (c.type_inv.bits i).fits;
     }

@@ -39,24 +39,24 @@ returns c = λ ss H link slot.
     let ys = drop 1 (get_or cs (n - 1) []) in
     let b = slot_home n salt w in
     let z : 2 * n - 0 ≡ 2 * n = omega arith in
-    let fit : Fit (part 3 4 w) = subst Fit (slot_bits n i m) c.home-of-b.ensures.fit in
+    let fit : Fit (part 3 4 w) = subst Fit (slot_bits n i m) c.home_of-b.ensures.fit in
     let gl : get_or (part 0 (2 * n) m) (n - 1) 0 ≡ i + 1 = get_or-take (2 * n) m (n - 1) 0 (omega arith) ∙ link in
     let step = chain_step n (part 0 (2 * n) m) (get_or (part 0 (2 * n) m) (n - 1) 0) (get_or cs (n - 1) []) (x.index.chain (n - 1) (omega arith)) (λ e. omega arith) in
     let less : i + 1 - 1 ≡ i = omega arith in
     let free : get_or cs (n - 1) [] ≡ i ∷ ys = step.0 ∙ ap (λ (v : ℕ). (v - 1) ∷ ys) gl ∙ ap (λ (v : ℕ). v ∷ ys) less in
-    let below : b < n = let h = c.home-of-b.ensures.within in let hb' = c.home-of-b.ensures.home ∙ home_in_slot n salt i m in omega arith in
-    let i1 = c.take-out.new.index in
+    let below : b < n = let h = c.home_of-b.ensures.within in let hb' = c.home_of-b.ensures.home ∙ home_in_slot n salt i m in omega arith in
+    let i1 = c.take_out.new.index in
     let i2 = c.add.new.index in
     let m1 = put 0 (2 * n - 0) m i1 in
     let m2 = put 0 (2 * n - 0) m1 i2 in
-    let l1 : length i1 ≡ 2 * n - 0 = c.take-out.auto.index ∙ (simp length-take (omega arith)) in
+    let l1 : length i1 ≡ 2 * n - 0 = c.take_out.auto.index ∙ (simp length-take (omega arith)) in
     let lm1 : length m1 ≡ length m = length_put 0 (2 * n - 0) m i1 (omega arith) l1 in
     let l2 : length i2 ≡ 2 * n - 0 = c.add.auto.index ∙ (simp length-take (omega arith)) in
-    let hb : c.home-of-b.result ≡ b = c.home-of-b.ensures.home ∙ home_in_slot n salt i m in
+    let hb : c.home_of-b.result ≡ b = c.home_of-b.ensures.home ∙ home_in_slot n salt i m in
     let slot_same : (j : ℕ) → slot_at n m2 j ≡ slot_at n m j = λ j.
     part_after 0 (2 * n - 0) m1 i2 (omega arith) l2 (2 * n + j * 190) 190 (omega arith) ∙ part_after 0 (2 * n - 0) m i1 (omega arith) l1 (2 * n + j * 190) 190 (omega arith) in
     let x0 : Index n (take (2 * n - 0) m) cs = subst (λ (q : ℕ). Index n (take q m) cs) (sym z) x.index in
-    let x1 : Index n i1 (in1 n cs ys) = c.take-out.ensures cs [] ys x0 free (not_in i) (omega arith) in
+    let x1 : Index n i1 (in1 n cs ys) = c.take_out.ensures cs [] ys x0 free (not_in i) (omega arith) in
     let x1' : Index n (take (2 * n - 0) m1) (in1 n cs ys) = subst (λ (l : List ℕ). Index n l (in1 n cs ys)) (sym (part_put 0 (2 * n - 0) m i1 (omega arith) l1)) x1 in
     let x2 : Index n i2 (in2 n cs ys b i) =
     subst (λ (q : ℕ). Index n i2 (set (in1 n cs ys) q (i ∷ get_or (in1 n cs ys) q []))) hb
@@ -71,7 +71,7 @@ returns c = λ ss H link slot.
       holds = (in2 n cs ys b i, held_in n salt m cs ss x i ys free w slot fit m2 (slot_same i) (λ j ne. slot_same j) x3);
       in_use = words (slot_at n m2 i) (slot_same i) (record {
         packing = packing_w n salt m cs ss x i ys free w slot fit;
-        fit = λ j. (c.type-inv.mem j).fits;
+        fit = λ j. (c.type_inv.mem j).fits;
         ends = λ is h l.
             let chain : is ≡ i ∷ get_or cs b [] =
             chain_unique n (part 0 (2 * n) m2) (get_or (part 0 (2 * n) m2) b 0) is (get_or (in2 n cs ys b i) b []) h (x3.chain b below) ∙ at_2 n salt m cs ss x i ys free w slot fit in

@@ -17,11 +17,11 @@ returns c = λ ss k ws H W.
     let m = c.args.mem.now in
     let z : 2 * n - 0 ≡ 2 * n = omega arith in
     let in-m : 0 + (2 * n - 0) ≤ length m = omega (arith, c.requires.room) in
-    let i1 = c.take-out.new.index in
+    let i1 = c.take_out.new.index in
     let i2 = c.add.new.index in
     let m1 = put 0 (2 * n - 0) m i1 in
     let m2 = put 0 (2 * n - 0) m1 i2 in
-    let l1 : length i1 ≡ 2 * n - 0 = c.take-out.auto.index ∙ (simp length-take (omega arith)) in
+    let l1 : length i1 ≡ 2 * n - 0 = c.take_out.auto.index ∙ (simp length-take (omega arith)) in
     let lm1 : length m1 ≡ length m = length_put 0 (2 * n - 0) m i1 in-m l1 in
     let in-m1 : 0 + (2 * n - 0) ≤ length m1 = omega arith in
     let l2 : length i2 ≡ 2 * n - 0 = c.add.auto.index ∙ (simp length-take (omega arith)) in
@@ -40,14 +40,14 @@ returns c = λ ss k ws H W.
     let r-is : r ≡ get_or is K n = walk_end n salt m ss H k ws r W in
     let K-in : K < length is = found_at n salt m cs ss x fit k ws pk r r-is c.requires.within in
     let in_is = r_in n salt m cs ss x fit k ws pk m2 r K slot_same refl K-in r-is in
-    let hb : c.home-of-b.result ≡ b = c.home-of-b.ensures.home ∙ home_in_slot n salt r m ∙ x.homes b r (home_below n salt k ws x.few) in_is in
+    let hb : c.home_of-b.result ≡ b = c.home_of-b.ensures.home ∙ home_in_slot n salt r m ∙ x.homes b r (home_below n salt k ws x.few) in_is in
     let parts = chain_parts n salt m cs ss x fit k ws pk m2 r K slot_same refl K-in r-is in
     let nf = not_front n salt m cs ss x fit k ws pk m2 r K slot_same refl K-in r-is in
     let lk : length (take K is) < n = simp length-take (omega arith) in
     let x0 : Index n (take (2 * n - 0) m) cs = subst (λ (q : ℕ). Index n (take q m) cs) (sym z) x.index in
     let x1 : Index n i1 (out1 cs b K) =
     subst (λ (q : ℕ). Index n i1 (set cs q (take K is ++ drop (suc K) is))) hb
-    (c.take-out.ensures cs (take K is) (drop (suc K) is) x0 (ap (λ (q : ℕ). get_or cs q []) hb ∙ parts) nf lk) in
+    (c.take_out.ensures cs (take K is) (drop (suc K) is) x0 (ap (λ (q : ℕ). get_or cs q []) hb ∙ parts) nf lk) in
     let x1' : Index n (take (2 * n - 0) m1) (out1 cs b K) = subst (λ (l : List ℕ). Index n l (out1 cs b K)) (sym (part_put 0 (2 * n - 0) m i1 in-m l1)) x1 in
     let x2 : Index n i2 (out2 n cs b K r) = c.add.ensures (out1 cs b K) x1' (fresh1 n salt m cs ss x fit k ws pk m2 r K slot_same refl K-in r-is) in
     let x3 : Index n (part 0 (2 * n) m2) (out2 n cs b K r) =

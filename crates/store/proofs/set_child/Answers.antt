@@ -17,15 +17,15 @@ returns c =
     let m = c.args.mem.now in
     let i = c.args.i in
     let a = 2 * n + i * 190 in
-    let w = c.set-child.new.slot in
+    let w = c.set_child.new.slot in
     let room : a + 190 ≤ length m = omega (arith, c.requires.room, c.requires.within) in
     let q : a + 190 - a ≡ 190 = omega arith in
     let p : part a (a + 190 - a) m ≡ slot_at n m i = ap (λ (k : ℕ). part a k m) q in
-    let size : length w ≡ 190 = c.set-child.auto.slot ∙ ap length p ∙ length_part a 190 m room in
-    let kept : KeepsPath (slot_at n m i) w = subst (λ (v : List ℕ). KeepsPath v w) p c.set-child.ensures.kept in
+    let size : length w ≡ 190 = c.set_child.auto.slot ∙ ap length p ∙ length_part a 190 m room in
+    let kept : KeepsPath (slot_at n m i) w = subst (λ (v : List ℕ). KeepsPath v w) p c.set_child.ensures.kept in
     let e : put a (a + 190 - a) m w ≡ put a 190 m w = ap (λ (k : ℕ). put a k m w) q in
     record {
-      stay = λ salt k ws r W. subst (λ (v : List ℕ). Walked n salt v k ws r) (sym e) (walked_on n m i w room size kept (subst Fit e (λ j. (c.type-inv.mem j).fits)) salt k ws r W);
+      stay = λ salt k ws r W. subst (λ (v : List ℕ). Walked n salt v k ws r) (sym e) (walked_on n m i w room size kept (subst Fit e (λ j. (c.type_inv.mem j).fits)) salt k ws r W);
       stored = λ salt ss k ws H W nk.
           let sp = walked_slot n salt m ss H k ws i W c.requires.within in
           let s = child_meant c.args.child.now in
@@ -33,7 +33,7 @@ returns c =
           let cs = children_of (rec_in (slot_at n m i)) in
           let E : Edited (slot_at n m i) w (node (slot_path (slot_at n m i)) (with_child cs d s)) =
           subst (λ (v : List ℕ). Edited v w (node (slot_path v) (with_child (children_of (rec_in v)) d s))) p
-          (c.set-child.ensures.edited (subst Slot (sym p) sp.0) (ap (λ (v : List ℕ). is_data (rec_in v)) p ∙ nk)) in
+          (c.set_child.ensures.edited (subst Slot (sym p) sp.0) (ap (λ (v : List ℕ). is_data (rec_in v)) p ∙ nk)) in
           subst (λ (v : List ℕ). Holds n salt v (updated (node (path_in k ws) (with_child cs d s)) ss)) (sym e)
           (held_edited n m i w room size kept salt ss k ws H W c.requires.within (node (path_in k ws) (with_child cs d s))
           (subst (λ (v : Path). Edited (slot_at n m i) w (node v (with_child cs d s))) (sym sp.1) E));

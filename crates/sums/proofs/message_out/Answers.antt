@@ -5,5 +5,5 @@ use Rattle.slot.specs.Layout.{bytes_in}
 
 pub returns : goal.returns
 returns c =
-    then_others c.secret-out.new.out (bytes_in c.args.secret.now) c.args.element.now c.copy-from-slice.new.self 32 _ (omega arith) c.secret-out.ensures
-    c.copy-from-slice.ensures.after
+    then_others c.secret_out.new.out (bytes_in c.args.secret.now) c.args.element.now c.copy_from_slice.new.self 32 _ (omega arith) c.secret_out.ensures
+    c.copy_from_slice.ensures.after

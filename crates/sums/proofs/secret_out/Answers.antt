@@ -12,8 +12,8 @@ pub loop-i-preserved : goal.loop-i-preserved
 loop-i-preserved c =
     let ws = c.args.secret.now in
     let i = c.loop-i.i in
-    one_more c.loop-i.out ws c.copy-from-slice.new.self i _ (omega arith) (omega arith)
-    (c.copy-from-slice.ensures.after ∙ (c.to-le-bytes.ensures ∙ eight_bytes (get_or ws i 0))) c.loop-i.invariant
+    one_more c.loop-i.out ws c.copy_from_slice.new.self i _ (omega arith) (omega arith)
+    (c.copy_from_slice.ensures.after ∙ (c.to_le_bytes.ensures ∙ eight_bytes (get_or ws i 0))) c.loop-i.invariant
 
 pub returns : goal.returns
 returns c = all_four c.loop-i.out c.args.secret.now c.loop-i.i (omega arith) c.requires.four c.loop-i.invariant

@@ -6,8 +6,8 @@ use Rattle.watch.specs.Promise.{Answers}
 use Rattle.watch.proofs.Kept.{malformed_kept, promised}
 use Rattle.watch.proofs.take.Goals as goal
 
-pub returns-in-default : goal.returns-in-default
-returns-in-default c = record { same = λ _. refl; fit = λ f. f; answers = λ l es g k. absurd (c.in-default.ensures.kept l (state l es) _ g k) }
+pub returns-in_default : goal.returns-in_default
+returns-in_default c = record { same = λ _. refl; fit = λ f. f; answers = λ l es g k. absurd (c.in_default.ensures.kept l (state l es) _ g k) }
 
 pub returns-in-Malformed : goal.returns-in-Malformed
 returns-in-Malformed c = record {
@@ -21,7 +21,7 @@ returns-in-Malformed c = record {
 pub returns-in-Logged : goal.returns-in-Logged
 returns-in-Logged c = record {
   same = c.logged.ensures.same;
-  fit = λ _ i. (c.type-inv.mem i).fits;
+  fit = λ _ i. (c.type_inv.mem i).fits;
   answers = λ l es g k.
       subst (λ (e : Event). Answers l es e c.logged.new.mem c.logged.result) c.in-Logged.ensures.value
       (promised l es (logged c.in-Logged.verifier (entry_of c.in-Logged.entry)) c.logged.new.mem c.logged.result

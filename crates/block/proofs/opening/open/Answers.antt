@@ -5,5 +5,5 @@ use Rattle.block.proofs.opening.open.Goals as goal
 
 pub returns : goal.returns
 returns c = λ t e.
-    open_keeps c.args.n c.args.salt c.args.block.now c.copy-from-slice.new.self c.open-store.new.mem (new_verifier t).store
-    c.requires.room c.copy-from-slice.ensures.after (omega arith) (c.open-store.ensures t e)
+    open_keeps c.args.n c.args.salt c.args.block.now c.copy_from_slice.new.self c.open_store.new.mem (new_verifier t).store
+    c.requires.room c.copy_from_slice.ensures.after (omega arith) (c.open_store.ensures t e)

@@ -11,4 +11,4 @@ returns c = λ n v k.
     let m = c.args.timestamp in
     let p = c.args.last.now in
     subst (λ (w : List ℕ). Keeps n (put 3 4 (set (set (set c.args.block.now 0 m.epoch) 1 m.counter) 2 p.len) w) (with_clock v (timestamp_of m) (path_in p.len p.bits)))
-    (sym c.copy-from-slice.ensures.after) (clock_written n c.args.block.now v m.epoch m.counter p.len p.bits k (omega arith) p.ok)
+    (sym c.copy_from_slice.ensures.after) (clock_written n c.args.block.now v m.epoch m.counter p.len p.bits k (omega arith) p.ok)

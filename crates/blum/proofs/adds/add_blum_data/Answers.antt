@@ -10,14 +10,14 @@ use Rattle.verifier.proofs.Stepped.{wrong, right}
 use Rattle.blum.proofs.Stepped.{add_fails, adds}
 use Rattle.blum.proofs.adds.add_blum_data.Goals as goal
 
-pub returns-in-err-after : goal.returns-in-err-after
+pub returns-in_err-after : goal.returns-in_err-after
 unfolding path_of
-returns-in-err-after c = record {
+returns-in_err-after c = record {
   same = λ _. refl;
   step = λ t j v k room fits.
       wrong _ _ _ _
-      (add_fails v _ _ t j (c.in-err-after.ensures v (data_record c.args.key.now (option_map (λ y. y.now) c.args.value)) k (sym c.key-path-path.ensures.path) fits))
-      c.from-residual.ensures.0;
+      (add_fails v _ _ t j (c.in_err-after.ensures v (data_record c.args.key.now (option_map (λ y. y.now) c.args.value)) k (sym c.key_path-path.ensures.path) fits))
+      c.from_residual.ensures.0;
 }
 
 pub returns : goal.returns
@@ -29,11 +29,11 @@ returns c = record {
       let b = c.advance.new.block in
       let x : Record = data_record c.args.key.now (option_map (λ y. y.now) c.args.value) in
       let m = timestamp_of c.args.timestamp in
-      let can = c.in-ok-after.ensures v x k (sym c.key-path-path.ensures.path) fits in
+      let can = c.in_ok-after.ensures v x k (sym c.key_path-path.ensures.path) fits in
       let w = advance_clock v (just_after m) in
       let kept : Keeps n b w = subst (λ (o : Timestamp). Keeps n b (advance_clock v o)) can.1 (c.advance.ensures n v k) in
       let H = taken_holds n b w kept in
-      let free : c.add-data.result < n = leb-false n c.add-data.result (c.add-data.ensures.full v.store H ∙ lt-leb n _ room) in
+      let free : c.add_data.result < n = leb-false n c.add_data.result (c.add_data.ensures.full v.store H ∙ lt-leb n _ room) in
       right n _ (tt {0}) _ _ _ _ _ (adds v x m t j can.0)
-      (store_written n b c.add-data.new.mem w (record { rec = x; by_merkle = false } ∷ v.store) kept c.add-data.auto.mem (c.add-data.ensures.stored v.store H c.key-path-path.ensures.path free).holds);
+      (store_written n b c.add_data.new.mem w (record { rec = x; by_merkle = false } ∷ v.store) kept c.add_data.auto.mem (c.add_data.ensures.stored v.store H c.key_path-path.ensures.path free).holds);
 }

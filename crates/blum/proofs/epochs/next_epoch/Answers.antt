@@ -16,5 +16,5 @@ returns c = record {
   same = λ e. absurd (both_ways true e refl);
   step = λ n t v k h.
       right n _ (tt {0}) _ _ _ _ _ (goes_on t v)
-      (clock_is n _ v _ _ _ _ (ap (λ (m : Timestamp). record { epoch = m.epoch + 1; counter = 0 }) (c.clock-epoch.ensures n v k) ∙ ap (λ (e : ℕ). record { epoch = e; counter = 0 }) (add-one v.clock.epoch)) c.root.ensures.path (c.set-clock.ensures n v k));
+      (clock_is n _ v _ _ _ _ (ap (λ (m : Timestamp). record { epoch = m.epoch + 1; counter = 0 }) (c.clock-epoch.ensures n v k) ∙ ap (λ (e : ℕ). record { epoch = e; counter = 0 }) (add-one v.clock.epoch)) c.root.ensures.path (c.set_clock.ensures n v k));
 }

@@ -23,5 +23,5 @@ returns c = record {
       let e = ap (λ (m : Timestamp). m.epoch) (c.clock.ensures n v k) in
       let d = c.done-epoch.ensures n v k in
       let next : c.done-epoch.result + 1 ≡ suc v.done = omega arith in
-      right n _ (tt {0}) _ _ _ _ _ (epoch_done t v (omega arith)) (subst (λ (x : ℕ). Keeps n c.set-done.new.block (with_done v x)) next (c.set-done.ensures n v k));
+      right n _ (tt {0}) _ _ _ _ _ (epoch_done t v (omega arith)) (subst (λ (x : ℕ). Keeps n c.set_done.new.block (with_done v x)) next (c.set_done.ensures n v k));
 }

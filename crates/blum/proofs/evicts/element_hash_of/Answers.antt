@@ -16,5 +16,5 @@ returns c = λ s.
     let e : part a (a + 190 - a) m ≡ slot_at c.args.n m c.args.i = ap (λ (x : ℕ). part a x m) k in
     c.digest.ensures.number
     ∙ ap hash_of
-    (gathered c.secret-out.new.out (bytes_in c.args.secret.now) _ _ 32 _ c.secret-out.ensures (omega arith) (c.element-out-end.ensures.wrote (subst Slot (sym e) s))
+    (gathered c.secret_out.new.out (bytes_in c.args.secret.now) _ _ 32 _ c.secret_out.ensures (omega arith) (c.element_out-end.ensures.wrote (subst Slot (sym e) s))
     ∙ ap (λ (w : List ℕ). bytes_in c.args.secret.now ++ element_bytes (record { rec = rec_in w; timestamp = timestamp_of c.args.timestamp; verifier = c.args.verifier })) e)

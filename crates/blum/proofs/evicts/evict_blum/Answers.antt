@@ -8,14 +8,14 @@ use Rattle.verifier.specs.Keys.{lent_store}
 use Rattle.blum.proofs.Stepped.{evict_fails, evicts, wrong}
 use Rattle.blum.proofs.evicts.evict_blum.Goals as goal
 
-pub returns-in-err-i : goal.returns-in-err-i
+pub returns-in_err-i : goal.returns-in_err-i
 unfolding verifier_step
-returns-in-err-i c = record {
+returns-in_err-i c = record {
   same = λ _. refl;
   step = λ v k.
       let p = path_in c.args.path.now.len c.args.path.now.bits in
       let m = timestamp_of c.args.timestamp in
-      wrong c.args.n _ _ _ m _ c.from-residual.ensures.0 (evict_fails v p m false c.args.verifier (find p v.store) (c.in-err-i.ensures.may v k));
+      wrong c.args.n _ _ _ m _ c.from_residual.ensures.0 (evict_fails v p m false c.args.verifier (find p v.store) (c.in_err-i.ensures.may v k));
 }
 
 pub returns : goal.returns
@@ -25,13 +25,13 @@ returns c = record {
   step = λ v k.
       let p = path_in c.args.path.now.len c.args.path.now.bits in
       let m = timestamp_of c.args.timestamp in
-      let a = c.in-ok-i.ensures.may v k in
+      let a = c.in_ok-i.ensures.may v k in
       record {
         left = _;
         element = _;
-        step = evicts v p m false c.args.verifier (stored_at c.args.n (lent_store c.args.n c.args.block.now) c.in-ok-i.i) (find p v.store) a.some a.can;
-        keeps = c.leave.ensures v k c.in-ok-i.ensures.led;
+        step = evicts v p m false c.args.verifier (stored_at c.args.n (lent_store c.args.n c.args.block.now) c.in_ok-i.i) (find p v.store) a.some a.can;
+        keeps = c.leave.ensures v k c.in_ok-i.ensures.led;
         when = refl;
-        hash = c.element-hash-of-hash.ensures a.slot;
+        hash = c.element_hash_of-hash.ensures a.slot;
       };
 }

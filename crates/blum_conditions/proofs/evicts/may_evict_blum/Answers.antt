@@ -14,17 +14,17 @@ returns-then-i-n c = record {
   within = tt;
   led = tt;
   may = λ v k.
-      let f = c.find-path-i.ensures.found v.store (taken_holds c.args.n c.args.block.now v k) in
+      let f = c.find_path-i.ensures.found v.store (taken_holds c.args.n c.args.block.now v k) in
       none_there v _ _ _ (f.none c.if-i-n.true);
 }
 
-pub returns-then-is-by-merkle-by-merkle : goal.returns-then-is-by-merkle-by-merkle
-returns-then-is-by-merkle-by-merkle c = record {
+pub returns-then-is_by_merkle-by_merkle : goal.returns-then-is_by_merkle-by_merkle
+returns-then-is_by_merkle-by_merkle c = record {
   within = tt;
   led = tt;
   may = λ v k.
-      let f = c.find-path-i.ensures.found v.store (taken_holds c.args.n c.args.block.now v k) in
-      otherwise v _ _ _ _ (f.some c.if-i-n.false) (ap (λ (b : Bool). not (beq b c.args.by_merkle)) (sym c.is-by-merkle.ensures) ∙ c.if-is-by-merkle-by-merkle.true);
+      let f = c.find_path-i.ensures.found v.store (taken_holds c.args.n c.args.block.now v k) in
+      otherwise v _ _ _ _ (f.some c.if-i-n.false) (ap (λ (b : Bool). not (beq b c.args.by_merkle)) (sym c.is_by_merkle.ensures) ∙ c.if-is_by_merkle-by_merkle.true);
 }
 
 pub returns-then-path-eq0 : goal.returns-then-path-eq0
@@ -33,44 +33,44 @@ returns-then-path-eq0 c = record {
   led = tt;
   may = λ v k.
       let p = c.args.path.now in
-      let f = c.find-path-i.ensures.found v.store (taken_holds c.args.n c.args.block.now v k) in
+      let f = c.find_path-i.ensures.found v.store (taken_holds c.args.n c.args.block.now v k) in
       is_root v _ _ _ _ (f.some c.if-i-n.false) (length_path p.len p.bits p.ok.0 ∙ c.if-path-eq0.true);
 }
 
-pub returns-then-not-is-earlier-with : goal.returns-then-not-is-earlier-with
-returns-then-not-is-earlier-with c = record {
+pub returns-then-not-is_earlier_with : goal.returns-then-not-is_earlier_with
+returns-then-not-is_earlier_with c = record {
   within = tt;
   led = tt;
   may = λ v k.
       let n = c.args.n in
       let p = path_in c.args.path.now.len c.args.path.now.bits in
       let m = timestamp_of c.args.timestamp in
-      let f = c.find-path-i.ensures.found v.store (taken_holds n c.args.block.now v k) in
+      let f = c.find_path-i.ensures.found v.store (taken_holds n c.args.block.now v k) in
       not_later v p m _ _ (f.some c.if-i-n.false)
-      (c.if-not-is-earlier-with.ensures ∙ ap₂ (λ (o : Timestamp) (q : Path). earlier_with o q m p) (c.clock.ensures n v k) (c.last-evicted-last.ensures n v k));
+      (c.if-not-is_earlier_with.ensures ∙ ap₂ (λ (o : Timestamp) (q : Path). earlier_with o q m p) (c.clock.ensures n v k) (c.last_evicted-last.ensures n v k));
 }
 
-pub returns-then-has-merkle-child : goal.returns-then-has-merkle-child
-returns-then-has-merkle-child c = record {
+pub returns-then-has_merkle_child : goal.returns-then-has_merkle_child
+returns-then-has_merkle_child c = record {
   within = tt;
   led = tt;
   may = λ v k.
       let H = taken_holds c.args.n c.args.block.now v k in
-      let f = c.find-path-i.ensures.found v.store H in
-      child_stored v _ _ _ _ (f.some c.if-i-n.false) (c.if-has-merkle-child.ensures v.store H (f.slot c.if-i-n.false));
+      let f = c.find_path-i.ensures.found v.store H in
+      child_stored v _ _ _ _ (f.some c.if-i-n.false) (c.if-has_merkle_child.ensures v.store H (f.slot c.if-i-n.false));
 }
 
 pub returns : goal.returns
 returns c = record {
   within = c.if-i-n.false;
-  led = c.find-path-i.ensures.walked;
+  led = c.find_path-i.ensures.walked;
   may = λ v k.
       let n = c.args.n in
       let q = c.args.path.now in
       let p = path_in q.len q.bits in
       let m = timestamp_of c.args.timestamp in
       let H = taken_holds n c.args.block.now v k in
-      let f = c.find-path-i.ensures.found v.store H in
+      let f = c.find_path-i.ensures.found v.store H in
       let len = length_path q.len q.bits q.ok.0 in
       let long : 0 < length p = omega arith in
       record {
@@ -78,8 +78,8 @@ returns c = record {
         some = f.some c.if-i-n.false;
         can =
             may v p m c.args.by_merkle _ long
-            (c.if-not-is-earlier-with.ensures ∙ ap₂ (λ (o : Timestamp) (r : Path). earlier_with o r m p) (c.clock.ensures n v k) (c.last-evicted-last.ensures n v k))
-            (ap (λ (b : Bool). not (beq b c.args.by_merkle)) (sym c.is-by-merkle.ensures) ∙ c.if-is-by-merkle-by-merkle.false)
-            (c.if-has-merkle-child.ensures v.store H (f.slot c.if-i-n.false));
+            (c.if-not-is_earlier_with.ensures ∙ ap₂ (λ (o : Timestamp) (r : Path). earlier_with o r m p) (c.clock.ensures n v k) (c.last_evicted-last.ensures n v k))
+            (ap (λ (b : Bool). not (beq b c.args.by_merkle)) (sym c.is_by_merkle.ensures) ∙ c.if-is_by_merkle-by_merkle.false)
+            (c.if-has_merkle_child.ensures v.store H (f.slot c.if-i-n.false));
       };
 }

@@ -4,63 +4,63 @@ use Rattle.blum_conditions.proofs.Linked.{no_above, above_is_data, not_below, po
 use Rattle.blum_conditions.proofs.links.link_to.Goals as goal
 
 pub returns-then-j-n : goal.returns-then-j-n
-returns-then-j-n c = record { within = tt; led = tt; linked = λ v H t m. no_above t v _ _ m ((c.find-path-j.ensures.found v.store H).none c.if-j-n.true) }
+returns-then-j-n c = record { within = tt; led = tt; linked = λ v H t m. no_above t v _ _ m ((c.find_path-j.ensures.found v.store H).none c.if-j-n.true) }
 
-pub returns-then-not-is-node : goal.returns-then-not-is-node
-returns-then-not-is-node c = record {
+pub returns-then-not-is_node : goal.returns-then-not-is_node
+returns-then-not-is_node c = record {
   within = tt;
   led = tt;
-  linked = λ v H t m. above_is_data t v _ _ m _ ((c.find-path-j.ensures.found v.store H).some c.if-j-n.false) c.if-not-is-node.ensures;
+  linked = λ v H t m. above_is_data t v _ _ m _ ((c.find_path-j.ensures.found v.store H).some c.if-j-n.false) c.if-not-is_node.ensures;
 }
 
-pub returns-then-not-is-below : goal.returns-then-not-is-below
-returns-then-not-is-below c = record {
+pub returns-then-not-is_below : goal.returns-then-not-is_below
+returns-then-not-is_below c = record {
   within = tt;
   led = tt;
-  linked = λ v H t m. not_below t v _ _ m _ ((c.find-path-j.ensures.found v.store H).some c.if-j-n.false) c.if-not-is-below.ensures;
+  linked = λ v H t m. not_below t v _ _ m _ ((c.find_path-j.ensures.found v.store H).some c.if-j-n.false) c.if-not-is_below.ensures;
 }
 
-pub returns-in-default : goal.returns-in-default
-returns-in-default c = record {
+pub returns-in_default : goal.returns-in_default
+returns-in_default c = record {
   within = tt;
   led = tt;
   linked = λ v H t m.
-      let f = c.find-path-j.ensures.found v.store H in
-      let nk = not-true _ (sym c.if-not-is-node.ensures) in
-      points_nowhere t v _ _ m _ (f.some c.if-j-n.false) _ c.side-of-side.ensures.side _ (c.in-default.ensures (f.slot c.if-j-n.false) nk) refl;
+      let f = c.find_path-j.ensures.found v.store H in
+      let nk = not-true _ (sym c.if-not-is_node.ensures) in
+      points_nowhere t v _ _ m _ (f.some c.if-j-n.false) _ c.side_of-side.ensures.side _ (c.in_default.ensures (f.slot c.if-j-n.false) nk) refl;
 }
 
-pub returns-then-not-is-same : goal.returns-then-not-is-same
-returns-then-not-is-same c = record {
+pub returns-then-not-is_same : goal.returns-then-not-is_same
+returns-then-not-is_same c = record {
   within = tt;
   led = tt;
   linked = λ v H t m.
-      let f = c.find-path-j.ensures.found v.store H in
-      let nk = not-true _ (sym c.if-not-is-node.ensures) in
-      points_elsewhere t v _ _ m _ (f.some c.if-j-n.false) _ c.side-of-side.ensures.side _ (c.in-Present.ensures (f.slot c.if-j-n.false) nk) _ _ _ refl c.if-not-is-same.ensures;
+      let f = c.find_path-j.ensures.found v.store H in
+      let nk = not-true _ (sym c.if-not-is_node.ensures) in
+      points_elsewhere t v _ _ m _ (f.some c.if-j-n.false) _ c.side_of-side.ensures.side _ (c.in-Present.ensures (f.slot c.if-j-n.false) nk) _ _ _ refl c.if-not-is_same.ensures;
 }
 
-pub returns-then-by-blum : goal.returns-then-by-blum
-returns-then-by-blum c = record {
+pub returns-then-by_blum : goal.returns-then-by_blum
+returns-then-by_blum c = record {
   within = tt;
   led = tt;
   linked = λ v H t m.
-      let f = c.find-path-j.ensures.found v.store H in
-      let nk = not-true _ (sym c.if-not-is-node.ensures) in
-      by_blum t v _ _ m _ (f.some c.if-j-n.false) _ c.side-of-side.ensures.side _ (c.in-Present.ensures (f.slot c.if-j-n.false) nk) _ _ _ refl c.if-by-blum.true;
+      let f = c.find_path-j.ensures.found v.store H in
+      let nk = not-true _ (sym c.if-not-is_node.ensures) in
+      by_blum t v _ _ m _ (f.some c.if-j-n.false) _ c.side_of-side.ensures.side _ (c.in-Present.ensures (f.slot c.if-j-n.false) nk) _ _ _ refl c.if-by_blum.true;
 }
 
 pub returns : goal.returns
 returns c = record {
-  within = (c.if-j-n.false, c.side-of-side.ensures.two);
-  led = c.find-path-j.ensures.walked;
+  within = (c.if-j-n.false, c.side_of-side.ensures.two);
+  led = c.find_path-j.ensures.walked;
   linked = λ v H.
-      let f = c.find-path-j.ensures.found v.store H in
-      let nk = not-true _ (sym c.if-not-is-node.ensures) in
+      let f = c.find_path-j.ensures.found v.store H in
+      let nk = not-true _ (sym c.if-not-is_node.ensures) in
       record {
         is_node = nk;
         step = λ t m.
-            links t v _ _ m _ (f.some c.if-j-n.false) _ c.side-of-side.ensures.side _ (c.in-Present.ensures (f.slot c.if-j-n.false) nk) _ _ _ refl
-            c.if-not-is-below.ensures c.if-not-is-node.ensures c.if-not-is-same.ensures c.if-by-blum.false;
+            links t v _ _ m _ (f.some c.if-j-n.false) _ c.side_of-side.ensures.side _ (c.in-Present.ensures (f.slot c.if-j-n.false) nk) _ _ _ refl
+            c.if-not-is_below.ensures c.if-not-is_node.ensures c.if-not-is_same.ensures c.if-by_blum.false;
       };
 }

@@ -5,8 +5,8 @@ use Rattle.memory.proofs.Spans.{block_within}
 use Rattle.epochs.proofs.Passed.{passed_none, passed_more, passed_all, passed_not, block_read}
 use Rattle.epochs.proofs.certifying.are_all_done.Goals as goal
 
-pub slice-bounds-done-end : goal.slice-bounds-done-end
-slice-bounds-done-end c =
+pub slice_bounds-done-end : goal.slice_bounds-done-end
+slice_bounds-done-end c =
     let h = block_within (with_rest (λ k. false) [] c.args.limits) c.loop-t.t c.loop-t-test.true in
     omega arith
 
@@ -20,7 +20,7 @@ returns-then-done-epoch c =
     let t = c.loop-t.t in
     let d = c.done-done.result in
     record {
-      all = passed_not x m c.args.epoch t d c.loop-t-test.true (block_read x m t c.block-start-a.result _ d c.block-start-a.ensures (omega arith) c.loop-t-test.true c.done-done.ensures) (omega arith);
+      all = passed_not x m c.args.epoch t d c.loop-t-test.true (block_read x m t c.block_start-a.result _ d c.block_start-a.ensures (omega arith) c.loop-t-test.true c.done-done.ensures) (omega arith);
       fits = λ h. absurd (false≢true h);
     }
 
@@ -30,7 +30,7 @@ loop-t-preserved c =
     let m = c.args.mem.now in
     let t = c.loop-t.t in
     let d = c.done-done.result in
-    passed_more x m c.args.epoch t d (block_read x m t c.block-start-a.result _ d c.block-start-a.ensures (omega arith) c.loop-t-test.true c.done-done.ensures) (omega arith) (omega arith) c.loop-t.invariant
+    passed_more x m c.args.epoch t d (block_read x m t c.block_start-a.result _ d c.block_start-a.ensures (omega arith) c.loop-t-test.true c.done-done.ensures) (omega arith) (omega arith) c.loop-t.invariant
 
 pub returns : goal.returns
 returns c = record {

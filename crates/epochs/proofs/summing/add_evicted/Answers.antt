@@ -10,5 +10,5 @@ returns c =
     let m = c.args.mem.now in
     let hash = c.args.hash.now in
     let h : Sums Laid evict_elements c.args.limits c.args.epoch hash m _ =
-    evicted_laid c.args.limits m c.add.new.sum hash c.args.epoch _ _ (ap (λ (n : ℕ). n + 4) c.sum-start-a.ensures.start) (omega arith) (omega arith) c.add.ensures in
+    evicted_laid c.args.limits m c.add.new.sum hash c.args.epoch _ _ (ap (λ (n : ℕ). n + 4) c.sum_start-a.ensures.start) (omega arith) (omega arith) c.add.ensures in
     record { laid = h; kept = sums_kept evict_elements c.args.limits c.args.epoch hash m _ h }

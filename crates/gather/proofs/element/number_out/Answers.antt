@@ -8,6 +8,6 @@ pub returns : goal.returns
 unfolding bytes_in le_bytes
 returns c =
     record {
-      end = c.bytes-out.ensures.end;
-      wrote = wrote_same c.args.out.now c.args.at (take 8 (bytes_in (c.args.n ∷ []))) (le_bytes 8 c.args.n) c.bytes-out.new.out c.bytes-out.result refl c.bytes-out.ensures.wrote;
+      end = c.bytes_out.ensures.end;
+      wrote = wrote_same c.args.out.now c.args.at (take 8 (bytes_in (c.args.n ∷ []))) (le_bytes 8 c.args.n) c.bytes_out.new.out c.bytes_out.result refl c.bytes_out.ensures.wrote;
     }

@@ -7,7 +7,7 @@ use Rattle.logfile.proofs.limits.read_limits.Goals as goal
 pub returns : goal.returns
 returns c =
     record {
-      value = c.limits-in.ensures;
-      text = made_text c.args.line.now c.limits-in.result c.limits-in.ensures;
-      tells = λ v p e hv hp he q. c.limits-in.ensures ∙ (ap read_line q ∙ reads_back v p e hv hp he);
+      value = c.limits_in.ensures;
+      text = made_text c.args.line.now c.limits_in.result c.limits_in.ensures;
+      tells = λ v p e hv hp he q. c.limits_in.ensures ∙ (ap read_line q ∙ reads_back v p e hv hp he);
     }

@@ -5,13 +5,13 @@ use Rattle.range.proofs.Ranged.{absent_good, path_bad, present_good}
 use Rattle.range.proofs.fields.child.Goals as goal
 use Rattle.slot.specs.Layout.{number_in}
 
-pub returns-in-default : goal.returns-in-default
-returns-in-default c = let e = ap pointer_of c.in-default.is in record { some = absent_good (pointer_of c.args.pointer) e; child = sym e }
+pub returns-in_default : goal.returns-in_default
+returns-in_default c = let e = ap pointer_of c.in_default.is in record { some = absent_good (pointer_of c.args.pointer) e; child = sym e }
 
-pub returns-in-default-path-from-bits : goal.returns-in-default-path-from-bits
-returns-in-default-path-from-bits c =
+pub returns-in_default-path_from_bits : goal.returns-in_default-path_from_bits
+returns-in_default-path_from_bits c =
     record {
-      some = path_bad (pointer_of c.args.pointer) c.in-Present.path.now (number_in c.in-Present.hash) c.in-Present.in-blum (ap pointer_of c.in-Present.is) c.in-default-path-from-bits.ensures.some;
+      some = path_bad (pointer_of c.args.pointer) c.in-Present.path.now (number_in c.in-Present.hash) c.in-Present.in_blum (ap pointer_of c.in-Present.is) c.in_default-path_from_bits.ensures.some;
       child = tt;
     }
 
@@ -19,7 +19,7 @@ pub returns : goal.returns
 returns c =
     let q = c.in-Present.path.now in
     let h = number_in c.in-Present.hash in
-    let b = c.in-Present.in-blum in
+    let b = c.in-Present.in_blum in
     let e = ap pointer_of c.in-Present.is in
     record {
       some = present_good (pointer_of c.args.pointer) q h b e c.in-Some.ensures.some c.present.ensures.fits;

@@ -8,4 +8,4 @@ use Rattle.slot.specs.Layout.{number_in}
 pub returns : goal.returns
 returns c =
     let ws : List ℕ = c.args.hash.now in
-    record { child = ap (λ (xs : List ℕ). there (bits_of c.args.path) (number_in xs) c.args.in-blum) (four ws c.requires); fits = hash_fits ws c.requires (λ i. (c.type-inv.hash i).fits) }
+    record { child = ap (λ (xs : List ℕ). there (bits_of c.args.path) (number_in xs) c.args.in_blum) (four ws c.requires); fits = hash_fits ws c.requires (λ i. (c.type_inv.hash i).fits) }

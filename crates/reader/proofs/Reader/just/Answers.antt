@@ -4,9 +4,9 @@ use Rattle.model.specs.Wire.{got, reads_just}
 use Rattle.reader.proofs.Steps.{one_none, one_other, one_fit}
 use Rattle.reader.proofs.Reader.just.Goals as goal
 
-pub returns-in-default : goal.returns-in-default
+pub returns-in_default : goal.returns-in_default
 unfolding reads_just
-returns-in-default c = one_none (λ b. eqb b c.args.is) c.args.self.now.rest.now (omega (arith, ltb-true, ltb-false))
+returns-in_default c = one_none (λ b. eqb b c.args.is) c.args.self.now.rest.now (omega (arith, ltb-true, ltb-false))
 
 pub returns-then-first-is : goal.returns-then-first-is
 unfolding reads_just

@@ -3,17 +3,17 @@ use Rattle.reader.specs.Meaning.{contents_of}
 use Rattle.wire_laws.proofs.Parts.{merkle_part, tag_below}
 use Rattle.reader.proofs.Reader.record.Goals as goal
 
-pub overflow-sub-merkle-bytes : goal.overflow-sub-merkle-bytes
-overflow-sub-merkle-bytes c =
+pub overflow_sub-merkle_bytes : goal.overflow_sub-merkle_bytes
+overflow_sub-merkle_bytes c =
     omega (
       arith,
-      (merkle_part c.sized.new.self.rest.now c.byte-len-size.ensures.small c.in-Some.kind c.in-Some-sized.name.now c.in-Some-just.field-0 c.just.new.self.rest.now (contents_of c.in-Some-sized.name.now c.in-Some-contents.contents)
+      (merkle_part c.sized.new.self.rest.now c.byte_len-size.ensures.small c.in-Some.kind c.in-Some-sized.name.now c.in-Some-just.field-0 c.just.new.self.rest.now (contents_of c.in-Some-sized.name.now c.in-Some-contents.contents)
           c.contents.new.self.rest.now (tag_below 2 c.in-Some.kind c.args.self.now.rest.now c.tag.new.self.rest.now c.in-Some.ensures) c.in-Some-just.ensures c.in-Some-contents.ensures).0,
     )
 
 pub returns : goal.returns
 returns c =
-    let p = merkle_part c.sized.new.self.rest.now c.byte-len-size.ensures.small c.in-Some.kind c.in-Some-sized.name.now c.in-Some-just.field-0 c.just.new.self.rest.now (contents_of c.in-Some-sized.name.now c.in-Some-contents.contents)
+    let p = merkle_part c.sized.new.self.rest.now c.byte_len-size.ensures.small c.in-Some.kind c.in-Some-sized.name.now c.in-Some-just.field-0 c.just.new.self.rest.now (contents_of c.in-Some-sized.name.now c.in-Some-contents.contents)
     c.contents.new.self.rest.now (tag_below 2 c.in-Some.kind c.args.self.now.rest.now c.tag.new.self.rest.now c.in-Some.ensures) c.in-Some-just.ensures c.in-Some-contents.ensures in
-    let e : (c.byte-len-size.result - length c.contents.new.self.rest.now) - 0 ≡ length c.sized.new.self.rest.now - length c.contents.new.self.rest.now = omega arith in
+    let e : (c.byte_len-size.result - length c.contents.new.self.rest.now) - 0 ≡ length c.sized.new.self.rest.now - length c.contents.new.self.rest.now = omega arith in
     record { reads = search rules; merkle = ap (λ k. take k c.sized.new.self.rest.now) e ∙ p.1 }

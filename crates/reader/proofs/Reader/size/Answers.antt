@@ -2,9 +2,9 @@ use Rattle.model.specs.Wire.{reads_number}
 use Rattle.wire_laws.proofs.Numbers.{two_digits}
 use Rattle.reader.proofs.Reader.size.Goals as goal
 
-pub returns-in-default : goal.returns-in-default
+pub returns-in_default : goal.returns-in_default
 unfolding reads_number
-returns-in-default c = rw c.in-default.ensures.reads
+returns-in_default c = rw c.in_default.ensures.reads
 
 pub returns : goal.returns
 unfolding reads_number

@@ -1,9 +1,9 @@
 use Rattle.model.specs.Wire.{reads_sized}
 use Rattle.reader.proofs.Reader.sized.Goals as goal
 
-pub returns-in-default : goal.returns-in-default
+pub returns-in_default : goal.returns-in_default
 unfolding reads_sized
-returns-in-default c = rw c.in-default.ensures
+returns-in_default c = rw c.in_default.ensures
 
 pub returns : goal.returns
 unfolding reads_sized

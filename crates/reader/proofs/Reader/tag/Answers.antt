@@ -4,9 +4,9 @@ use Rattle.model.specs.Wire.{reads_tag}
 use Rattle.reader.proofs.Steps.{one_none, one_other, one_fit}
 use Rattle.reader.proofs.Reader.tag.Goals as goal
 
-pub returns-in-default : goal.returns-in-default
+pub returns-in_default : goal.returns-in_default
 unfolding reads_tag
-returns-in-default c = one_none (λ b. ltb b c.args.end) c.args.self.now.rest.now (omega (arith, ltb-true, ltb-false))
+returns-in_default c = one_none (λ b. ltb b c.args.end) c.args.self.now.rest.now (omega (arith, ltb-true, ltb-false))
 
 pub returns-then-first-end : goal.returns-then-first-end
 unfolding reads_tag

@@ -2,4 +2,4 @@ use Rattle.record.proofs.Filled.{copied_front}
 use Rattle.record.proofs.packing.fill.Goals as goal
 
 pub returns : goal.returns
-returns c = copied_front 256 c.args.bytes.now c.copy-from-slice.new.self c.copy-from-slice.ensures.after
+returns c = copied_front 256 c.args.bytes.now c.copy_from_slice.new.self c.copy_from_slice.ensures.after

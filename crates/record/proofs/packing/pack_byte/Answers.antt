@@ -8,5 +8,5 @@ returns c =
     record {
       byte = omega arith;
       bits = λ h.
-          ap (λ (x : ℕ). bits 8 (x * 0x8040201008040201 % 18446744073709551616 / 72057594037927936)) c.from-le-bytes-eight.ensures ∙ gathered_bits c.args.bytes.now c.requires h;
+          ap (λ (x : ℕ). bits 8 (x * 0x8040201008040201 % 18446744073709551616 / 72057594037927936)) c.from_le_bytes-eight.ensures ∙ gathered_bits c.args.bytes.now c.requires h;
     }

@@ -15,15 +15,15 @@ loop-j-preserved c =
     let xs = c.args.bytes.now in
     let n = 8 * c.loop-j.j in
     let w = c.loop-j.word in
-    let b = c.pack-byte.result in
+    let b = c.pack_byte.result in
     let m : n + 8 ≡ 8 * (c.loop-j.j + 1) = omega arith in
     let k : n + 8 - n ≡ 8 = omega arith in
-    let v = shifted n w b (omega arith) c.loop-j.invariant.0 c.pack-byte.ensures.byte in (
-      subst (λ (x : ℕ). x < 2 ^ (8 * (c.loop-j.j + 1))) (sym v) (subst (λ (x : ℕ). w * 256 + b < 2 ^ x) m (shifted_below n w b c.loop-j.invariant.0 c.pack-byte.ensures.byte)),
+    let v = shifted n w b (omega arith) c.loop-j.invariant.0 c.pack_byte.ensures.byte in (
+      subst (λ (x : ℕ). x < 2 ^ (8 * (c.loop-j.j + 1))) (sym v) (subst (λ (x : ℕ). w * 256 + b < 2 ^ x) m (shifted_below n w b c.loop-j.invariant.0 c.pack_byte.ensures.byte)),
       λ h.
           ap₂ bits (sym m) v
-          ∙ (bits_append n 8 w b c.pack-byte.ensures.byte
-          ∙ (ap₂ (λ (x y : List ℕ). x ++ y) (c.loop-j.invariant.1 h) (c.pack-byte.ensures.bits (take_bits (n + 8 - n) (drop n xs) (drop_bits n xs h)) ∙ ap (λ (x : ℕ). take x (drop n xs)) k)
+          ∙ (bits_append n 8 w b c.pack_byte.ensures.byte
+          ∙ (ap₂ (λ (x y : List ℕ). x ++ y) (c.loop-j.invariant.1 h) (c.pack_byte.ensures.bits (take_bits (n + 8 - n) (drop n xs) (drop_bits n xs h)) ∙ ap (λ (x : ℕ). take x (drop n xs)) k)
           ∙ (sym (take_plus n 8 xs) ∙ ap (λ (x : ℕ). take x xs) m))),
     )
 

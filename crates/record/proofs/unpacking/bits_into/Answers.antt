@@ -19,9 +19,9 @@ loop-j-preserved c =
     let l = length_word_bits c.args.bits.now in
     let k : at + i + 8 - (at + i) ≡ 8 = omega arith in
     let m : i + 8 ≡ 8 * (c.loop-j.j + 1) = omega arith in
-    ap₂ (λ (n : ℕ) (x : List ℕ). put_mid (at + i) n x c.copy-from-slice.new.self) k c.loop-j.invariant
-    ∙ (paste_eight d at s i c.copy-from-slice.new.self (omega arith) (omega arith)
-    (c.copy-from-slice.ensures.after ∙ (c.unpack-byte.ensures ∙ c.byte-of.ensures.bits))
+    ap₂ (λ (n : ℕ) (x : List ℕ). put_mid (at + i) n x c.copy_from_slice.new.self) k c.loop-j.invariant
+    ∙ (paste_eight d at s i c.copy_from_slice.new.self (omega arith) (omega arith)
+    (c.copy_from_slice.ensures.after ∙ (c.unpack_byte.ensures ∙ c.byte_of.ensures.bits))
     ∙ ap (paste d at s) m)
 
 pub loop-i-init : goal.loop-i-init
@@ -35,10 +35,10 @@ loop-i-init c =
     let e : c.loop-j.out ≡ paste d at s n = c.loop-j.invariant ∙ ap (paste d at s) k in
     e ∙ (sym (paste_over d at s n n (omega arith) (omega arith) (omega arith)) ∙ ap (λ (x : List ℕ). paste x at s n) (sym e))
 
-pub overflow-cast-out : goal.overflow-cast-out
-overflow-cast-out c =
+pub overflow_cast-out : goal.overflow_cast-out
+overflow_cast-out c =
     let h = word_bit c.args.bits.now c.loop-i.i (omega arith) in
-    omega (arith, c.bit-of.ensures)
+    omega (arith, c.bit_of.ensures)
 
 pub loop-i-preserved : goal.loop-i-preserved
 loop-i-preserved c =
@@ -46,7 +46,7 @@ loop-i-preserved c =
     let s = word_bits c.args.bits.now in
     let i = c.loop-i.i in
     let l = length_word_bits c.args.bits.now in
-    ap₂ (λ (x : List ℕ) (b : ℕ). set x (at + i) b) c.loop-i.invariant c.bit-of.ensures ∙ paste_more c.loop-j.out at s i 0 (omega arith) (omega arith)
+    ap₂ (λ (x : List ℕ) (b : ℕ). set x (at + i) b) c.loop-i.invariant c.bit_of.ensures ∙ paste_more c.loop-j.out at s i 0 (omega arith) (omega arith)
 
 pub returns : goal.returns
 returns c =

@@ -22,23 +22,23 @@ pub returns-then-words-j : goal.returns-then-words-j
 returns-then-words-j c =
     let t = c.args.bytes.now in
     let j = c.loop-j.j in
-    sym (c.loop-j.invariant ∙ word_differs c.args.words.now c.args.len t c.requires.room c.if-bytes-len.false (λ i. (c.type-inv.words i).fits) (λ i. (c.type-inv.bytes i).fits) j (omega arith)
-    (λ e. c.if-words-j.true (e ∙ sym (c.word-of.ensures ∙ ap (λ (k : ℕ). le_number (take k (drop (8 * j) t))) (cut j)))))
+    sym (c.loop-j.invariant ∙ word_differs c.args.words.now c.args.len t c.requires.room c.if-bytes-len.false (λ i. (c.type_inv.words i).fits) (λ i. (c.type_inv.bytes i).fits) j (omega arith)
+    (λ e. c.if-words-j.true (e ∙ sym (c.word_of.ensures ∙ ap (λ (k : ℕ). le_number (take k (drop (8 * j) t))) (cut j)))))
 
 pub loop-j-preserved : goal.loop-j-preserved
 loop-j-preserved c =
     let t = c.args.bytes.now in
     let j = c.loop-j.j in
-    c.loop-j.invariant ∙ word_same c.args.words.now c.args.len t c.requires.room c.if-bytes-len.false (λ i. (c.type-inv.words i).fits) (λ i. (c.type-inv.bytes i).fits) j (omega arith)
-    (c.if-words-j.false ∙ c.word-of.ensures ∙ ap (λ (k : ℕ). le_number (take k (drop (8 * j) t))) (cut j))
+    c.loop-j.invariant ∙ word_same c.args.words.now c.args.len t c.requires.room c.if-bytes-len.false (λ i. (c.type_inv.words i).fits) (λ i. (c.type_inv.bytes i).fits) j (omega arith)
+    (c.if-words-j.false ∙ c.word_of.ensures ∙ ap (λ (k : ℕ). le_number (take k (drop (8 * j) t))) (cut j))
 
 pub returns-then-words-i : goal.returns-then-words-i
 returns-then-words-i c =
-    sym (c.loop-i.invariant ∙ byte_differs c.args.words.now c.args.len c.args.bytes.now c.requires.room c.if-bytes-len.false (λ i. (c.type-inv.words i).fits) (λ i. (c.type-inv.bytes i).fits) c.loop-i.i (omega arith) c.if-words-i.true)
+    sym (c.loop-i.invariant ∙ byte_differs c.args.words.now c.args.len c.args.bytes.now c.requires.room c.if-bytes-len.false (λ i. (c.type_inv.words i).fits) (λ i. (c.type_inv.bytes i).fits) c.loop-i.i (omega arith) c.if-words-i.true)
 
 pub loop-i-preserved : goal.loop-i-preserved
 loop-i-preserved c =
-    c.loop-i.invariant ∙ byte_same c.args.words.now c.args.len c.args.bytes.now c.requires.room c.if-bytes-len.false (λ i. (c.type-inv.words i).fits) (λ i. (c.type-inv.bytes i).fits) c.loop-i.i (omega arith) c.if-words-i.false
+    c.loop-i.invariant ∙ byte_same c.args.words.now c.args.len c.args.bytes.now c.requires.room c.if-bytes-len.false (λ i. (c.type_inv.words i).fits) (λ i. (c.type_inv.bytes i).fits) c.loop-i.i (omega arith) c.if-words-i.false
 
 pub returns : goal.returns
 returns c =
@@ -46,4 +46,4 @@ returns c =
     let s = take n (bytes_in c.args.words.now) in
     let t = c.args.bytes.now in
     let e : c.loop-i.i ≡ n = omega arith in
-    sym (c.loop-i.invariant ∙ ap (λ (k : ℕ). same_bytes (drop k s) (drop k t)) e ∙ all_same c.args.words.now n t c.requires.room c.if-bytes-len.false (λ i. (c.type-inv.words i).fits) (λ i. (c.type-inv.bytes i).fits))
+    sym (c.loop-i.invariant ∙ ap (λ (k : ℕ). same_bytes (drop k s) (drop k t)) e ∙ all_same c.args.words.now n t c.requires.room c.if-bytes-len.false (λ i. (c.type_inv.words i).fits) (λ i. (c.type_inv.bytes i).fits))

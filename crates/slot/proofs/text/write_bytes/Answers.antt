@@ -14,9 +14,9 @@ loop-j-preserved c =
     let j = c.loop-j.j in
     let t = c.args.bytes.now in
     let k : 8 * j + 8 - 8 * j ≡ 8 = omega arith in
-    take_more_set c.loop-j.words j c.word-of.result (omega arith)
-    ∙ ap (λ (x : List ℕ). x ++ c.word-of.result ∷ []) c.loop-j.invariant
-    ∙ ap (λ (x : ℕ). words_of j t ++ x ∷ []) (c.word-of.ensures ∙ ap (λ (x : ℕ). le_number (take x (drop (8 * j) t))) k)
+    take_more_set c.loop-j.words j c.word_of.result (omega arith)
+    ∙ ap (λ (x : List ℕ). x ++ c.word_of.result ∷ []) c.loop-j.invariant
+    ∙ ap (λ (x : ℕ). words_of j t ++ x ∷ []) (c.word_of.ensures ∙ ap (λ (x : ℕ). le_number (take x (drop (8 * j) t))) k)
     ∙ sym (words_more j t)
 
 pub returns-then-whole-words : goal.returns-then-whole-words
@@ -25,15 +25,15 @@ returns-then-whole-words c =
     let j = c.loop-j.j in
     let k = length t / 8 in
     let jk : j ≡ k = omega arith in
-    let v = c.word-of-then-whole-words.result in
+    let v = c.word_of-then-whole-words.result in
     let e : take (k + 1) (set c.loop-j.words k v) ≡ words_of (k + 1) t =
     take_more_set c.loop-j.words k v (omega arith)
     ∙ ap (λ (x : List ℕ). x ++ v ∷ []) (ap (λ (q : ℕ). take q c.loop-j.words) (sym jk) ∙ c.loop-j.invariant ∙ ap (λ (q : ℕ). words_of q t) jk)
-    ∙ ap (λ (x : ℕ). words_of k t ++ x ∷ []) (c.word-of-then-whole-words.ensures ∙ ap le_number (last_eight t (8 * k) (omega arith)))
+    ∙ ap (λ (x : ℕ). words_of k t ++ x ∷ []) (c.word_of-then-whole-words.ensures ∙ ap le_number (last_eight t (8 * k) (omega arith)))
     ∙ sym (words_more k t) in
-    all_back (k + 1) t (set c.loop-j.words k v) e (let ls = length-set c.loop-j.words k v in omega arith) (omega arith) (λ i. (c.type-inv.bytes i).fits)
+    all_back (k + 1) t (set c.loop-j.words k v) e (let ls = length-set c.loop-j.words k v in omega arith) (omega arith) (λ i. (c.type_inv.bytes i).fits)
 
 pub returns-else-whole-words : goal.returns-else-whole-words
 returns-else-whole-words c =
     let t = c.args.bytes.now in
-    all_back c.loop-j.j t c.loop-j.words c.loop-j.invariant (omega arith) (omega arith) (λ i. (c.type-inv.bytes i).fits)
+    all_back c.loop-j.j t c.loop-j.words c.loop-j.invariant (omega arith) (omega arith) (λ i. (c.type_inv.bytes i).fits)

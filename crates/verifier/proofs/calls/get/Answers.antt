@@ -4,15 +4,15 @@ use Rattle.verifier.proofs.Called.{get_fails, other_value, gets}
 use Rattle.conditions.specs.declared.parts.Failure.TheVariants.{NotStored, ValueDiffers}
 use Rattle.verifier.proofs.calls.get.Goals as goal
 
-pub returns-in-default : goal.returns-in-default
-returns-in-default c = λ t v k. failed (Unit {0}) c.args.n c.args.block.now NotStored _ (get_fails t v _ _ (c.in-default.ensures.found v k))
+pub returns-in_default : goal.returns-in_default
+returns-in_default c = λ t v k. failed (Unit {0}) c.args.n c.args.block.now NotStored _ (get_fails t v _ _ (c.in_default.ensures.found v k))
 
-pub returns-then-not-has-value : goal.returns-then-not-has-value
-returns-then-not-has-value c = λ t v k.
+pub returns-then-not-has_value : goal.returns-then-not-has_value
+returns-then-not-has_value c = λ t v k.
     let s = c.in-Some.ensures.found v k in
-    failed (Unit {0}) c.args.n c.args.block.now ValueDiffers _ (other_value t v _ _ s.some s.key _ (c.if-not-has-value.ensures s.slot))
+    failed (Unit {0}) c.args.n c.args.block.now ValueDiffers _ (other_value t v _ _ s.some s.key _ (c.if-not-has_value.ensures s.slot))
 
 pub returns : goal.returns
 returns c = λ t v k.
     let s = c.in-Some.ensures.found v k in
-    right _ _ (tt {0}) _ _ _ _ _ (gets t v _ _ s.some s.key _ (c.if-not-has-value.ensures s.slot)) k
+    right _ _ (tt {0}) _ _ _ _ _ (gets t v _ _ s.some s.key _ (c.if-not-has_value.ensures s.slot)) k

@@ -13,13 +13,13 @@ use Rattle.verifier.proofs.Stepped.{wrong, right}
 use Rattle.verifier.proofs.Told.{told_data, data_after}
 use Rattle.verifier.proofs.merkle.add_merkle_data.Goals as goal
 
-pub returns-in-err-adding : goal.returns-in-err-adding
-returns-in-err-adding c = record {
+pub returns-in_err-adding : goal.returns-in_err-adding
+returns-in_err-adding c = record {
   same = λ _. refl;
   step = λ t v k room bytes.
       wrong _ _ _ _
-      (c.in-err-adding.ensures.may t v _ (taken_holds c.args.n c.args.block.now v k) (told_data c.args.key.now c.args.value _ _ _ c.key-path-path.ensures.path c.is-none.ensures bytes))
-      c.from-residual.ensures.0;
+      (c.in_err-adding.ensures.may t v _ (taken_holds c.args.n c.args.block.now v k) (told_data c.args.key.now c.args.value _ _ _ c.key_path-path.ensures.path c.is_none.ensures bytes))
+      c.from_residual.ensures.0;
 }
 
 pub returns : goal.returns
@@ -31,13 +31,13 @@ returns c = record {
       let b = c.args.block.now in
       let H = taken_holds n b v k in
       let x : Record = data_record c.args.key.now (option_map (λ y. y.now) c.args.value) in
-      let s = c.in-ok-adding.ensures.may t v x H (told_data c.args.key.now c.args.value _ _ _ c.key-path-path.ensures.path c.is-none.ensures bytes) in
-      let a = c.in-ok-adding.adding in
+      let s = c.in_ok-adding.ensures.may t v x H (told_data c.args.key.now c.args.value _ _ _ c.key_path-path.ensures.path c.is_none.ensures bytes) in
+      let a = c.in_ok-adding.adding in
       let q = path_in c.args.above.now.len c.args.above.now.bits in
       let ys : List Stored = after_link a.way (pointing q (stored_at n (lent_store n b) a.above).rec a.side (path_of x)) v.store in
       right n _ (tt {0}) _ _ _ _ _ s.step
-      (store_written n b c.add-merkle-data.new.mem v _ k c.add-merkle-data.auto.mem
-      (subst (λ (y : Record). Holds n (salt_in b) c.add-merkle-data.new.mem (record { rec = y; by_merkle = true } ∷ ys)) (data_after a.way c.args.key.now _ s.over)
-      (subst (λ (p : Path). Holds n (salt_in b) c.add-merkle-data.new.mem (record { rec = x; by_merkle = true } ∷ after_link a.way (pointing q (stored_at n (lent_store n b) a.above).rec a.side p) v.store)) c.key-path-path.ensures.path
-      (c.add-merkle-data.ensures v.store _ _ H room c.key-path-path.ensures.path c.in-ok-adding.ensures.led s.is_node s.own))));
+      (store_written n b c.add_merkle_data.new.mem v _ k c.add_merkle_data.auto.mem
+      (subst (λ (y : Record). Holds n (salt_in b) c.add_merkle_data.new.mem (record { rec = y; by_merkle = true } ∷ ys)) (data_after a.way c.args.key.now _ s.over)
+      (subst (λ (p : Path). Holds n (salt_in b) c.add_merkle_data.new.mem (record { rec = x; by_merkle = true } ∷ after_link a.way (pointing q (stored_at n (lent_store n b) a.above).rec a.side p) v.store)) c.key_path-path.ensures.path
+      (c.add_merkle_data.ensures v.store _ _ H room c.key_path-path.ensures.path c.in_ok-adding.ensures.led s.is_node s.own))));
 }

@@ -5,13 +5,13 @@ use Rattle.slot.specs.declared.child.Child.{Child}
 use Rattle.slot.specs.declared.child.Child.TheVariants.{Absent, Present}
 use Rattle.verifier.proofs.merkle.are_absent.Goals as goal
 
-pub returns-in-default : goal.returns-in-default
+pub returns-in_default : goal.returns-in_default
 unfolding is_absent
-returns-in-default c = sym (ap (λ (d : Child). is_absent (child_meant d) && is_absent (child_meant c.args.right.now)) c.in-default.is)
+returns-in_default c = sym (ap (λ (d : Child). is_absent (child_meant d) && is_absent (child_meant c.args.right.now)) c.in_default.is)
 
-pub returns-in-default-right : goal.returns-in-default-right
+pub returns-in_default-right : goal.returns-in_default-right
 unfolding is_absent
-returns-in-default-right c = sym (ap (λ (d : Child). is_absent (child_meant d) && is_absent (child_meant c.args.right.now)) c.in-Absent.is ∙ ap (λ (d : Child). is_absent (child_meant d)) c.in-default-right.is)
+returns-in_default-right c = sym (ap (λ (d : Child). is_absent (child_meant d) && is_absent (child_meant c.args.right.now)) c.in-Absent.is ∙ ap (λ (d : Child). is_absent (child_meant d)) c.in_default-right.is)
 
 pub returns : goal.returns
 unfolding is_absent

@@ -22,15 +22,15 @@ returns-then-verifier-limits c = record {
       refused_kept l c.args.mem.now s c.args.verifier _ 2 k (no_verifier l s c.args.verifier _ (le-ltb c.args.verifier l.verifiers (omega (arith, c.if-verifier-limits.true)))) (omega arith);
 }
 
-pub slice-bounds-admitted-end : goal.slice-bounds-admitted-end
-slice-bounds-admitted-end c =
+pub slice_bounds-admitted-end : goal.slice_bounds-admitted-end
+slice_bounds-admitted-end c =
     let h = block_within (with_rest (λ k. false) [] c.args.limits) c.args.verifier c.if-verifier-limits.false in
-    omega (arith, c.requires.size, c.block-start-a.ensures)
+    omega (arith, c.requires.size, c.block_start-a.ensures)
 
-pub slice-bounds-step-end : goal.slice-bounds-step-end
-slice-bounds-step-end c =
+pub slice_bounds-step-end : goal.slice_bounds-step-end
+slice_bounds-step-end c =
     let h = block_within (with_rest (λ k. false) [] c.args.limits) c.args.verifier c.if-verifier-limits.false in
-    omega (arith, c.requires.size, c.block-start-a.ensures)
+    omega (arith, c.requires.size, c.block_start-a.ensures)
 
 -- the block, as the checks of refusals have it
 block_for : (n p : ℕ) (b : List ℕ) (v : Verifier) → p ≡ n → Keeps n b v → Keeps p b v
@@ -47,7 +47,7 @@ returns-in-Err c = record {
       let m = c.args.mem.now in
       let t = c.args.verifier in
       let lt = c.if-verifier-limits.false in
-      let keeps = lent_keeps l c.args.limits m s t a k lt c.block-start-a.result c.block-start-a.ensures in
+      let keeps = lent_keeps l c.args.limits m s t a k lt c.block_start-a.result c.block_start-a.ensures in
       refused_kept l m s t _ c.in-Err.refusal k
       (c.in-Err.ensures.refusal l s t g (c.standing-standing.ensures.stands l s a k) (within t _ l.verifiers lt a.verifiers) (block_for _ _ _ _ c.standing-standing.ensures.places keeps))
       (omega (arith, c.in-Err.ensures.listed));
@@ -64,16 +64,16 @@ returns-in-Ok-step c = record {
       let e = entry_of c.args.entry in
       let lt = c.if-verifier-limits.false in
       let v = verifier_at s.verifiers t in
-      let keeps = lent_keeps l x m s t a k lt c.block-start-a.result c.block-start-a.ensures in
+      let keeps = lent_keeps l x m s t a k lt c.block_start-a.result c.block_start-a.ensures in
       let ok = c.in-Ok.ensures.refusal l s t g (c.standing-standing.ensures.stands l s a k) (within t _ l.verifiers lt a.verifiers) (block_for _ _ _ _ c.standing-standing.ensures.places keeps) in
       let seen = looked l s t e ok in
       let room : is_add e ≡ true → length v.store < x.places = λ i. subst (λ (n : ℕ). length v.store < n) a.places (has_room l v e seen.room i) in
-      let secret = ap bytes_in c.secret-of-secret.ensures ∙ k.secret in
+      let secret = ap bytes_in c.secret_of-secret.ensures ∙ k.secret in
       let g' : Goes x.places c.step.new.block l.secret c.in-Ok-step.effect (verifier_step t v e) =
       subst (λ (key : List ℕ). Goes x.places c.step.new.block key c.in-Ok-step.effect (verifier_step t v e)) secret (c.in-Ok-step.ensures.step v keeps room parts (timely l s t c.args.entry g seen parts)) in
       let st = settled l es in
-      let at = c.block-start-a.result in
-      let is = c.block-start-a.ensures in
+      let at = c.block_start-a.result in
+      let is = c.block_start-a.ensures in
       right_kept l x m s t a k lt at is e ok st c.step.new.block c.in-Ok-step.effect g' c.finish.new.mem c.finish.result (eqb c.code-verifies.result 6)
       (ap (λ (n : ℕ). eqb n 6) c.code-verifies.ensures) (λ s₁ z laid ready. c.finish.ensures.finished l s₁ z a laid ready);
 }
@@ -89,10 +89,10 @@ returns-in-Err-step c = record {
       let e = entry_of c.args.entry in
       let lt = c.if-verifier-limits.false in
       let v = verifier_at s.verifiers t in
-      let keeps = lent_keeps l x m s t a k lt c.block-start-a.result c.block-start-a.ensures in
+      let keeps = lent_keeps l x m s t a k lt c.block_start-a.result c.block_start-a.ensures in
       let ok = c.in-Ok.ensures.refusal l s t g (c.standing-standing.ensures.stands l s a k) (within t _ l.verifiers lt a.verifiers) (block_for _ _ _ _ c.standing-standing.ensures.places keeps) in
       let seen = looked l s t e ok in
       let room : is_add e ≡ true → length v.store < x.places = λ i. subst (λ (n : ℕ). length v.store < n) a.places (has_room l v e seen.room i) in
-      wrong_kept l x m s t a k lt c.block-start-a.result c.block-start-a.ensures e ok c.step.new.block (c.in-Err-step.ensures.same refl)
+      wrong_kept l x m s t a k lt c.block_start-a.result c.block_start-a.ensures e ok c.step.new.block (c.in-Err-step.ensures.same refl)
       (c.in-Err-step.ensures.step v keeps room parts (timely l s t c.args.entry g seen parts));
 }

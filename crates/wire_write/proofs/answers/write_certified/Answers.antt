@@ -13,6 +13,6 @@ pub returns : goal.returns
 returns c =
     let n = c.args.epochs in
     let f =
-    at_front c.args.to.now c.put-number.new.to (3 ∷ le_bytes 8 n) c.put-number.result
-    (c.put-number.ensures.written ∙ (ap (λ p. with_number p n) c.put-byte-at.ensures.written ∙ certified_put c.args.to.now n)) in
-    (lt-ltb n 18446744073709551616 c.put-number.ensures.fits, f.0, f.1)
+    at_front c.args.to.now c.put_number.new.to (3 ∷ le_bytes 8 n) c.put_number.result
+    (c.put_number.ensures.written ∙ (ap (λ p. with_number p n) c.put_byte-at.ensures.written ∙ certified_put c.args.to.now n)) in
+    (lt-ltb n 18446744073709551616 c.put_number.ensures.fits, f.0, f.1)

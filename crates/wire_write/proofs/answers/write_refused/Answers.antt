@@ -15,6 +15,6 @@ returns c =
     let k = c.args.refusal in
     let n = c.args.place in
     let f =
-    at_front c.args.to.now c.put-number.new.to (0 ∷ (k ∷ le_bytes 8 n)) c.put-number.result
-    (c.put-number.ensures.written ∙ (ap (λ p. with_number p n) (c.put-byte-at-2.ensures.written ∙ ap (λ p. with_byte p k) c.put-byte-at.ensures.written) ∙ refused_put c.args.to.now k n)) in
-    (and_from (ltb k 256) (fits_64 n) (lt-ltb k 256 (omega arith)) (lt-ltb n 18446744073709551616 c.put-number.ensures.fits), f.0, f.1)
+    at_front c.args.to.now c.put_number.new.to (0 ∷ (k ∷ le_bytes 8 n)) c.put_number.result
+    (c.put_number.ensures.written ∙ (ap (λ p. with_number p n) (c.put_byte-at-2.ensures.written ∙ ap (λ p. with_byte p k) c.put_byte-at.ensures.written) ∙ refused_put c.args.to.now k n)) in
+    (and_from (ltb k 256) (fits_64 n) (lt-ltb k 256 (omega arith)) (lt-ltb n 18446744073709551616 c.put_number.ensures.fits), f.0, f.1)

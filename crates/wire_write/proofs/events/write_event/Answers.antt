@@ -8,14 +8,14 @@ use Rattle.wire_write.proofs.Measured.{length_tells}
 use Rattle.wire_write.proofs.Pages.{event_put, at_front, event_length}
 use Rattle.wire_write.proofs.events.write_event.Goals as goal
 
-pub put-number-at-requires : goal.put-number-at-requires
-put-number-at-requires c =
+pub put_number-at-requires : goal.put_number-at-requires
+put_number-at-requires c =
     let t = c.args.verifier in
     let e = entry_of c.args.entry in
     omega (arith, event_length t e, (length_tells (readable (logged t e)) (length (event_bytes t e)) c.in-Some.len c.in-Some.ensures).1)
 
-pub put-entry-requires : goal.put-entry-requires
-put-entry-requires c =
+pub put_entry-requires : goal.put_entry-requires
+put_entry-requires c =
     let t = c.args.verifier in
     let e = entry_of c.args.entry in
     omega (arith, event_length t e, (length_tells (readable (logged t e)) (length (event_bytes t e)) c.in-Some.len c.in-Some.ensures).1)
@@ -26,6 +26,6 @@ returns c =
     let e = entry_of c.args.entry in
     let l = length_tells (readable (logged t e)) (length (event_bytes t e)) c.in-Some.len c.in-Some.ensures in
     let f =
-    at_front c.args.to.now c.put-entry.new.to (event_bytes t e) c.put-entry.result
-    (c.put-entry.ensures ∙ (ap (λ p. with_entry p e) c.put-number-at.ensures.written ∙ event_put c.args.to.now t e)) in
+    at_front c.args.to.now c.put_entry.new.to (event_bytes t e) c.put_entry.result
+    (c.put_entry.ensures ∙ (ap (λ p. with_entry p e) c.put_number-at.ensures.written ∙ event_put c.args.to.now t e)) in
     (l.0, f.0, f.1)

@@ -8,5 +8,5 @@ returns c =
     let t = c.args.text.now in
     record {
       end = omega arith;
-      written = c.put-slice.ensures.written ∙ (ap (λ q. with_bytes q t) (c.put-byte-at-2.ensures.written ∙ ap (λ q. with_byte q (length t / 256 % 256)) c.put-byte-at.ensures.written) ∙ sized_put (page c.args.to.now c.args.at) t (omega arith));
+      written = c.put_slice.ensures.written ∙ (ap (λ q. with_bytes q t) (c.put_byte-at-2.ensures.written ∙ ap (λ q. with_byte q (length t / 256 % 256)) c.put_byte-at.ensures.written) ∙ sized_put (page c.args.to.now c.args.at) t (omega arith));
     }

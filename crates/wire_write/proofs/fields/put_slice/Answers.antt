@@ -8,4 +8,4 @@ pub returns : goal.returns
 returns c =
     let i = c.args.at in
     let n = length c.args.part.now in
-    record { end = refl; written = ap (λ ws. page (put_mid i (i + n - i) c.args.to.now ws) (i + n)) c.copy-from-slice.ensures.after ∙ slice_put c.args.to.now i c.args.part.now }
+    record { end = refl; written = ap (λ ws. page (put_mid i (i + n - i) c.args.to.now ws) (i + n)) c.copy_from_slice.ensures.after ∙ slice_put c.args.to.now i c.args.part.now }

@@ -7,5 +7,5 @@ returns-then-len-gt-LONGEST-TEXT c = record { value = sized_too_long c.args.text
 
 pub returns : goal.returns
 returns c =
-    let e : 2 + c.byte-len-len.result ≡ 2 + length c.args.text.now = omega arith in
-    record { value = ap Some e ∙ sized_fits c.args.text.now c.byte-len-len.ensures.small (omega arith); most = omega arith }
+    let e : 2 + c.byte_len-len.result ≡ 2 + length c.args.text.now = omega arith in
+    record { value = ap Some e ∙ sized_fits c.args.text.now c.byte_len-len.ensures.small (omega arith); most = omega arith }

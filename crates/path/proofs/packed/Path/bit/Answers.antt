@@ -7,4 +7,4 @@ pub returns : goal.returns
 returns c =
     let p = c.args.self.now in
     let k : Packs p.len p.bits = search rules in
-    c.bit-of.ensures ∙ get_or_packed p.len p.bits c.args.i k (search rules)
+    c.bit_of.ensures ∙ get_or_packed p.len p.bits c.args.i k (search rules)
