@@ -4,7 +4,7 @@ use Rattle.record.proofs.Swapped.{digest_bits, whole_packs, whole_path}
 use Rattle.record.proofs.keys.key_path.Goals as goal
 
 pub invariant_of-result : goal.invariant_of-result
-invariant_of-result c = (whole_packs (c.big_endian.result ∷ (c.big_endian-2.result ∷ (c.big_endian-3.result ∷ (c.big_endian-4.result ∷ [])))), tt)
+invariant_of-result c = record { ok = whole_packs (c.big_endian.result ∷ (c.big_endian-2.result ∷ (c.big_endian-3.result ∷ (c.big_endian-4.result ∷ [])))) }
 
 pub returns : goal.returns
 returns c =

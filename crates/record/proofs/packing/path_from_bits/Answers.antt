@@ -7,11 +7,11 @@ use Rattle.record.proofs.packing.path_from_bits.Goals as goal
 pub invariant_of-result : goal.invariant_of-result
 invariant_of-result c =
     let xs = c.args.bytes.now in
-    let g = and_parts (are_bits xs) (leb (length xs) 256) (sym c.is_good_path.ensures ∙ c.if-not-is_good_path.false) in (
-      packed_packs xs c.fill-filled.result _ _ _ _ (leb-true (length xs) 256 g.1) g.0 c.fill-filled.ensures
-          c.pack_word.ensures c.pack_word-2.ensures c.pack_word-3.ensures c.pack_word-4.ensures,
-      tt,
-    )
+    let g = and_parts (are_bits xs) (leb (length xs) 256) (sym c.is_good_path.ensures ∙ c.if-not-is_good_path.false) in
+    record {
+      ok = packed_packs xs c.fill-filled.result _ _ _ _ (leb-true (length xs) 256 g.1) g.0 c.fill-filled.ensures
+          c.pack_word.ensures c.pack_word-2.ensures c.pack_word-3.ensures c.pack_word-4.ensures;
+    }
 
 pub returns : goal.returns
 returns c =

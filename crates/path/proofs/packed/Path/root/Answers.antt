@@ -5,4 +5,4 @@ use Rattle.path.proofs.packed.Path.root.Goals as goal
 
 pub invariant_of-result : goal.invariant_of-result
 unfolding word_bits bits
-invariant_of-result c = ((lit≤ tt, refl), tt)
+invariant_of-result c = record { ok = (lit≤ tt, refl) }
