@@ -31,7 +31,7 @@ const LAST_EPOCH: u64 = 0xffff_ffff;
 
 // An entry's code.
 pub fn code(entry: Entry<'_>) -> u8
-    ensures { result ≡ entry_code (entry_of entry) }
+    ensures { result ≡ entry_code (entry_of entry.entry) }
 {
     match entry {
         Entry::AddMerkle { .. } => 0,
@@ -61,7 +61,7 @@ fn lacks_room(block: &[u64], n: usize, code: u8) -> bool
 // The epoch that an entry names or begins; one that is out of range stays so.
 fn named_epoch(block: &[u64], entry: Entry<'_>) -> u64
     requires { 64 ≤ length block.now }
-    ensures { (n : ℕ) (v : Verifier) → Keeps n block.now v → Named result (epoch_named v (entry_of entry)) }
+    ensures { (n : ℕ) (v : Verifier) → Keeps n block.now v → Named result (epoch_named v (entry_of entry.entry)) }
 {
     match entry {
         Entry::AddBlum { timestamp, .. } => timestamp.epoch,
@@ -76,9 +76,9 @@ fn named_epoch(block: &[u64], entry: Entry<'_>) -> u64
 pub fn admitted(block: &[u64], standing: Standing, entry: Entry<'_>) -> Result<Packed, u8>
     requires few { 2 ≤ standing.places }
     requires room { length block.now ≡ block_words standing.places }
-    ensures packed { IfOk result (PacksEntry entry) }
+    ensures packed { IfOk result (PacksEntry entry.entry) }
     ensures listed { IfErr result (λ c. 2 ≤ c) }
-    ensures refusal { (l : Limits) (s : State) (t : ℕ) → GoodLimits all_entries l → Stands standing l s → t < l.verifiers → Keeps standing.places block.now (verifier_at s.verifiers t) → refusal l s (logged t (entry_of entry)) ≡ code_of result }
+    ensures refusal { (l : Limits) (s : State) (t : ℕ) → GoodLimits all_entries l → Stands standing l s → t < l.verifiers → Keeps standing.places block.now (verifier_at s.verifiers t) → refusal l s (logged t (entry_of entry.entry)) ≡ code_of result }
 {
     let Some(packed) = in_range(entry, standing.verifiers) else {
         return Err(OUT_OF_RANGE);

@@ -39,7 +39,7 @@ pub fn add_blum_data(
     requires key { length key.now ≤ 64 }
     requires value { IfSome value (λ v. length v.now ≤ 1024) }
     ensures same { is_ok result ≡ false → block.new ≡ block.old }
-    ensures step { (t j : ℕ) (v : Verifier) → Keeps n block.old v → length v.store < n → timestamp.counter < 2 ^ 64 - 1 → Taken n block.new result (verifier_step t v (add_blum (data_record key.now (option_map (λ x. x.now) value)) (timestamp_of timestamp) j)) }
+    ensures step { (t j : ℕ) (v : Verifier) → Keeps n block.old v → length v.store < n → timestamp.counter < 2 ^ 64 - 1 → Taken n block.new result (verifier_step t v (add_blum (data_record key.now (option_map (λ x. x.now) value.entry)) (timestamp_of timestamp) j)) }
 {
     let path = key_path(key);
     let after = may_add_blum(block, n, &path, timestamp)?;

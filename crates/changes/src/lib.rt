@@ -104,7 +104,7 @@ pub fn add_merkle_data(
     requires value { IfSome value (λ v. length v.now ≤ 1024) }
     requires above { adding.now.above < n }
     requires two { adding.now.side < 2 }
-    ensures { (xs : List Stored) (l : ℕ) (us : List ℕ) → Holds n salt mem.old xs → length xs < n → path_in path.now.len path.now.bits ≡ key_path key.now → Walked n salt mem.old l us adding.now.above → is_data (stored_at n mem.old adding.now.above).rec ≡ false → OwnHash adding.now.way (merkle_hash (data_record key.now (option_map (λ v. v.now) value))) → Holds n salt mem.new (record { rec = data_record key.now (option_map (λ v. v.now) value); by_merkle = true } ∷ after_link adding.now.way (node (path_in l us) (with_child (children_of (stored_at n mem.old adding.now.above).rec) adding.now.side (present (path_in path.now.len path.now.bits) 0 false))) xs) }
+    ensures { (xs : List Stored) (l : ℕ) (us : List ℕ) → Holds n salt mem.old xs → length xs < n → path_in path.now.len path.now.bits ≡ key_path key.now → Walked n salt mem.old l us adding.now.above → is_data (stored_at n mem.old adding.now.above).rec ≡ false → OwnHash adding.now.way (merkle_hash (data_record key.now (option_map (λ v. v.now) value.entry))) → Holds n salt mem.new (record { rec = data_record key.now (option_map (λ v. v.now) value.entry); by_merkle = true } ∷ after_link adding.now.way (node (path_in l us) (with_child (children_of (stored_at n mem.old adding.now.above).rec) adding.now.side (present (path_in path.now.len path.now.bits) 0 false))) xs) }
 {
     link(mem, n, path, adding);
     let i = add_data(mem, n, salt, path, key, value, true);

@@ -97,7 +97,7 @@ fn check_events<R: Read>(
 ) -> Result<Summary, Failed>
     requires { length buf.old ≡ 1048576 }
 {
-    let mut out = BufWriter::new(rt.stdout());
+    let mut out = reported(rt, STANDARD_OUTPUT, BufWriter::new(rt.alloc(), rt.stdout()))?;
     let mut summary = Summary::new();
     let mut held = held;
     // No log has more events than this.

@@ -1,10 +1,10 @@
 -- Hashes in four words, child pointers, and keys with their values: what is in range.
-use Rattle.std.proofs.Common.{◌≡◌, ℕ, ◌<◌, ◌≤◌, Bool, true, false, ◌&&◌, leb, List, [], ◌∷◌, length, get_or, Some, None, Option, refl, arith, Bor}
+use Rattle.std.proofs.Common.{◌≡◌, ℕ, ◌<◌, ◌≤◌, Bool, true, false, ◌&&◌, leb, List, [], ◌∷◌, length, get_or, Some, None, Option, refl, ap, ◌+◌, ◌*◌, ◌^◌, arith, Bor}
 use Rattle.std.proofs.lemmas.Bool.{le-leb, leb-true, lt-ltb}
 use Rattle.path.specs.Packs.{Fit}
 use Rattle.model.specs.Records.{Pointer, absent, present}
 use Rattle.model.specs.Monitor.{modulus, good_path, good_pointer, good_key, good_value}
-use Rattle.reader.specs.Meaning.{value_of}
+use Rattle.reader.specs.Meaning.{value_of, hash_number}
 use Rattle.range.specs.Packing.{Short}
 use Rattle.slot.specs.Layout.{number_in}
 
@@ -16,6 +16,12 @@ four (a ∷ b ∷ []) e = absurd (omega arith)
 four (a ∷ b ∷ c ∷ []) e = absurd (omega arith)
 four (a ∷ b ∷ c ∷ d ∷ []) e = refl
 four (a ∷ b ∷ c ∷ d ∷ f ∷ ws) e = absurd (omega arith)
+
+-- a hash that is read, as the store's words have it
+pub hash_in : (ws : List ℕ) → hash_number ws ≡ number_in ws
+unfolding number_in
+hash_in [] = refl
+hash_in (w ∷ ws) = ap (λ (n : ℕ). w + 2 ^ 64 * n) (hash_in ws)
 
 pub hash_fits : (ws : List ℕ) → length ws ≡ 4 → Fit ws → number_in ws < modulus
 unfolding number_in

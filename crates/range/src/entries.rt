@@ -13,8 +13,8 @@ use record::path_from_bits;
 use wire::Record;
 
 pub fn add_merkle(record: Record<'_>, above: &[u8]) -> Option<Packed>
-    ensures some { is_some result ≡ (good_record (record_of «record») && good_node_path above.now) }
-    ensures packed { IfSome result (λ p. (bits_of p.above ≡ above.now) × PacksRecord «record» p) }
+    ensures some { is_some result ≡ (good_record (record_of «record».entry) && good_node_path above.now) }
+    ensures packed { IfSome result (λ p. (bits_of p.above ≡ above.now) × PacksRecord «record».entry p) }
 {
     let Some(packed) = of_record(record) else {
         return None;
@@ -31,8 +31,8 @@ pub fn add_blum(
     verifier: u64,
     verifiers: u64,
 ) -> Option<Packed>
-    ensures some { is_some result ≡ ((good_record (record_of «record») && good_timestamp (timestamp_of timestamp)) && nat_lt verifier verifiers) }
-    ensures packed { IfSome result (PacksRecord «record») }
+    ensures some { is_some result ≡ ((good_record (record_of «record».entry) && good_timestamp (timestamp_of timestamp)) && nat_lt verifier verifiers) }
+    ensures packed { IfSome result (PacksRecord «record».entry) }
 {
     if verifier >= verifiers {
         return None;

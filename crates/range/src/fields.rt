@@ -37,8 +37,8 @@ pub fn node_path(bits: &[u8]) -> Option<Path>
 
 // A child pointer by value.
 pub fn child(pointer: Pointer<'_>) -> Option<Child>
-    ensures some { is_some result ≡ good_pointer (pointer_of pointer) }
-    ensures child { IfSome result (λ c. child_meant c ≡ pointer_of pointer) }
+    ensures some { is_some result ≡ good_pointer (pointer_of pointer.entry) }
+    ensures child { IfSome result (λ c. child_meant c ≡ pointer_of pointer.entry) }
 {
     let Pointer::Present {
         path,
@@ -71,8 +71,8 @@ pub fn is_good_timestamp(timestamp: Timestamp) -> bool
 
 // Are a key and its value short enough?
 pub fn is_good_call(key: &[u8], value: Option<&[u8]>) -> bool
-    ensures good { result ≡ (good_key key.now && good_value (value_of value)) }
-    ensures short { result ≡ true → Short key.now value }
+    ensures good { result ≡ (good_key key.now && good_value (value_of value.entry)) }
+    ensures short { result ≡ true → Short key.now value.entry }
 {
     if key.len() > KEY_BYTES {
         return false;

@@ -16,8 +16,8 @@ use wire::Entry;
 
 // What an entry names, if all of it is in range for this many verifiers.
 pub fn in_range(entry: Entry<'_>, verifiers: u64) -> Option<Packed>
-    ensures some { (l : Limits) → l.verifiers ≡ verifiers → is_some result ≡ good_entry l (entry_of entry) }
-    ensures packed { IfSome result (PacksEntry entry) }
+    ensures some { (l : Limits) → l.verifiers ≡ verifiers → is_some result ≡ good_entry l (entry_of entry.entry) }
+    ensures packed { IfSome result (PacksEntry entry.entry) }
 {
     match entry {
         Entry::AddMerkle { record, above } => entries::add_merkle(record, above),

@@ -24,8 +24,8 @@ pub fn nothing() -> Packed
 
 // Of a key and a value nothing is packed.
 pub fn of_call(key: &[u8], value: Option<&[u8]>) -> Option<Packed>
-    ensures some { is_some result ≡ (good_key key.now && good_value (value_of value)) }
-    ensures short { OnSome result (Short key.now value) }
+    ensures some { is_some result ≡ (good_key key.now && good_value (value_of value.entry)) }
+    ensures short { OnSome result (Short key.now value.entry) }
 {
     if !is_good_call(key, value) {
         return None;
@@ -34,8 +34,8 @@ pub fn of_call(key: &[u8], value: Option<&[u8]>) -> Option<Packed>
 }
 
 fn of_node(path: &[u8], left: Pointer<'_>, right: Pointer<'_>) -> Option<Packed>
-    ensures some { is_some result ≡ (good_node_path path.now && (good_pointer (pointer_of left) && good_pointer (pointer_of right))) }
-    ensures packed { IfSome result (λ p. (bits_of p.path ≡ path.now) × (child_meant p.left ≡ pointer_of left) × (child_meant p.right ≡ pointer_of right)) }
+    ensures some { is_some result ≡ (good_node_path path.now && (good_pointer (pointer_of left.entry) && good_pointer (pointer_of right.entry))) }
+    ensures packed { IfSome result (λ p. (bits_of p.path ≡ path.now) × (child_meant p.left ≡ pointer_of left.entry) × (child_meant p.right ≡ pointer_of right.entry)) }
 {
     let Some(path) = node_path(path) else {
         return None;
@@ -55,8 +55,8 @@ fn of_node(path: &[u8], left: Pointer<'_>, right: Pointer<'_>) -> Option<Packed>
 }
 
 pub fn of_record(record: Record<'_>) -> Option<Packed>
-    ensures some { is_some result ≡ good_record (record_of «record») }
-    ensures packed { IfSome result (PacksRecord «record») }
+    ensures some { is_some result ≡ good_record (record_of «record».entry) }
+    ensures packed { IfSome result (PacksRecord «record».entry) }
 {
     match record.contents {
         Contents::Value(value) => of_call(record.name, value),

@@ -156,7 +156,7 @@ pub fn has_key(mem: &[u64], n: usize, i: usize, key: &[u8]) -> bool
 pub fn has_value(mem: &[u64], n: usize, i: usize, value: Option<&[u8]>) -> bool
     requires room { length mem.now ≡ 192 * n }
     requires within { i < n }
-    ensures { Slot (slot_at n mem.now i) → result ≡ has_value (stored_at n mem.now i).rec (option_map (λ v. v.now) value) }
+    ensures { Slot (slot_at n mem.now i) → result ≡ has_value (stored_at n mem.now i).rec (option_map (λ v. v.now) value.entry) }
 {
     let a = 2 * n + i * SLOT_WORDS;
     let kind = mem[a];

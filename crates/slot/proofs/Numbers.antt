@@ -4,7 +4,14 @@ use Rattle.std.proofs.lemmas.Bool.{ne_eqb, eq-eqb, cases_Bool, both_ways}
 use Rattle.model.specs.Records.{same_bytes}
 use Rattle.path.specs.Packs.{Fit}
 use Rattle.path.proofs.Same.{same_true, same_refl}
+use Rattle.sha256.specs.Limbs.{limbs_number}
 use Rattle.slot.specs.Layout.{number_in}
+
+-- a digest's number, as the store's words have it
+pub limbs_in : (ws : List ℕ) → number_in ws ≡ limbs_number ws
+unfolding number_in limbs_number
+limbs_in [] = refl
+limbs_in (w ∷ ws) = ap (λ (n : ℕ). w + 2 ^ 64 * n) (limbs_in ws)
 
 -- the number in words is that of no other words
 pub number_same : (a b : List ℕ) → length a ≡ length b → Fit a → Fit b → number_in a ≡ number_in b → a ≡ b

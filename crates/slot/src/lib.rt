@@ -71,7 +71,7 @@ pub fn write_data(slot: &mut [u64], path: &Path, key: &[u8], value: Option<&[u8]
     requires size { length slot.old ≡ slot_words }
     requires key { length key.now ≤ 64 }
     requires value { IfSome value (λ v. length v.now ≤ 1024) }
-    ensures { path_in path.now.len path.now.bits ≡ key_path key.now → Slot slot.new × (stored_in slot.new ≡ record { rec = data_record key.now (option_map (λ v. v.now) value); by_merkle = by_merkle }) }
+    ensures { path_in path.now.len path.now.bits ≡ key_path key.now → Slot slot.new × (stored_in slot.new ≡ record { rec = data_record key.now (option_map (λ v. v.now) value.entry); by_merkle = by_merkle }) }
 {
     write_key(slot, path, key, by_merkle);
     if let Some(v) = value {

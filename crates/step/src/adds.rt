@@ -24,7 +24,7 @@ pub fn add_merkle(
     requires room { length block.old ≡ block_words n }
     requires packed { PacksRecord «record» packed.now }
     ensures same { is_ok result ≡ false → block.new ≡ block.old }
-    ensures step { (t : ℕ) (v : Verifier) → Keeps n block.old v → length v.store < n → MerklePart «record» → Taken n block.new result (verifier_step t v (add_merkle (record_of «record») (bits_of packed.now.above))) }
+    ensures step { (t : ℕ) (v : Verifier) → Keeps n block.old v → length v.store < n → MerklePart «record».entry → Taken n block.new result (verifier_step t v (add_merkle (record_of «record».entry) (bits_of packed.now.above))) }
 {
     match record.contents {
         Contents::Value(value) => add_merkle_data(
@@ -59,7 +59,7 @@ pub fn add_blum(
     requires room { length block.old ≡ block_words n }
     requires packed { PacksRecord «record» packed.now }
     ensures same { is_ok result ≡ false → block.new ≡ block.old }
-    ensures step { (t j : ℕ) (v : Verifier) → Keeps n block.old v → length v.store < n → timestamp.counter < 2 ^ 64 - 1 → Taken n block.new result (verifier_step t v (add_blum (record_of «record») (timestamp_of timestamp) j)) }
+    ensures step { (t j : ℕ) (v : Verifier) → Keeps n block.old v → length v.store < n → timestamp.counter < 2 ^ 64 - 1 → Taken n block.new result (verifier_step t v (add_blum (record_of «record».entry) (timestamp_of timestamp) j)) }
 {
     match record.contents {
         Contents::Value(value) => add_blum_data(block, n, record.name, value, timestamp),

@@ -28,7 +28,7 @@ fn quiet_step(block: &mut [u64], n: usize, entry: Entry<'_>, packed: &Packed) ->
     requires room { length block.old ≡ block_words n }
     requires packed { PacksEntry entry packed.now }
     ensures same { is_ok result ≡ false → block.new ≡ block.old }
-    ensures step { (t : ℕ) (v : Verifier) → Keeps n block.old v → (is_add (entry_of entry) ≡ true → length v.store < n) → EntryParts entry → Timely v entry → sums_none entry ≡ true → Taken n block.new result (verifier_step t v (entry_of entry)) }
+    ensures step { (t : ℕ) (v : Verifier) → Keeps n block.old v → (is_add (entry_of entry.entry) ≡ true → length v.store < n) → EntryParts entry.entry → Timely v entry.entry → sums_none entry.entry ≡ true → Taken n block.new result (verifier_step t v (entry_of entry.entry)) }
 {
     match entry {
         Entry::AddMerkle { record, .. } => add_merkle(block, n, record, packed),
@@ -54,7 +54,7 @@ pub fn step(
     requires room { length block.old ≡ block_words n }
     requires packed { PacksEntry entry packed.now }
     ensures same { is_ok result ≡ false → block.new ≡ block.old }
-    ensures step { (v : Verifier) → Keeps n block.old v → (is_add (entry_of entry) ≡ true → length v.store < n) → EntryParts entry → Timely v entry → Stepped n block.new (bytes_in secret.now) result (verifier_step verifier v (entry_of entry)) }
+    ensures step { (v : Verifier) → Keeps n block.old v → (is_add (entry_of entry.entry) ≡ true → length v.store < n) → EntryParts entry.entry → Timely v entry.entry → Stepped n block.new (bytes_in secret.now) result (verifier_step verifier v (entry_of entry.entry)) }
 {
     match entry {
         Entry::AddBlum {

@@ -160,7 +160,7 @@ pub fn add_data(
     requires value { IfSome value (λ v. length v.now ≤ 1024) }
     ensures same { n ≤ result → mem.new ≡ mem.old }
     ensures full { (xs : List Stored) → Holds n salt mem.old xs → nat_le n result ≡ nat_le n (length xs) }
-    ensures stored { (xs : List Stored) → Holds n salt mem.old xs → path_in path.now.len path.now.bits ≡ key_path key.now → result < n → Added n salt mem.new xs (record { rec = data_record key.now (option_map (λ v. v.now) value); by_merkle = by_merkle }) result }
+    ensures stored { (xs : List Stored) → Holds n salt mem.old xs → path_in path.now.len path.now.bits ≡ key_path key.now → result < n → Added n salt mem.new xs (record { rec = data_record key.now (option_map (λ v. v.now) value.entry); by_merkle = by_merkle }) result }
 {
     let i = first_free(mem, n);
     if i >= n {

@@ -33,7 +33,7 @@ fn slot_of(block: &[u64], n: usize, key: &[u8]) -> Option<usize>
 pub fn get(block: &[u64], n: usize, key: &[u8], value: Option<&[u8]>) -> Result<(), Failure>
     requires few { 2 ≤ n }
     requires room { length block.now ≡ block_words n }
-    ensures { (t : ℕ) (v : Verifier) → Keeps n block.now v → Taken n block.now result (verifier_step t v (gets key.now (option_map (λ x. x.now) value))) }
+    ensures { (t : ℕ) (v : Verifier) → Keeps n block.now v → Taken n block.now result (verifier_step t v (gets key.now (option_map (λ x. x.now) value.entry))) }
 {
     let Some(i) = slot_of(block, n, key) else {
         return Err(Failure::NotStored);

@@ -27,7 +27,7 @@ pub fn add_merkle_data(
     requires key { length key.now ≤ 64 }
     requires value { IfSome value (λ v. length v.now ≤ 1024) }
     ensures same { is_ok result ≡ false → block.new ≡ block.old }
-    ensures step { (t : ℕ) (v : Verifier) → Keeps n block.old v → length v.store < n → merkle_bytes.now ≡ merkle_bytes (data_record key.now (option_map (λ x. x.now) value)) → Taken n block.new result (verifier_step t v (add_merkle (data_record key.now (option_map (λ x. x.now) value)) (path_in above.now.len above.now.bits))) }
+    ensures step { (t : ℕ) (v : Verifier) → Keeps n block.old v → length v.store < n → merkle_bytes.now ≡ merkle_bytes (data_record key.now (option_map (λ x. x.now) value.entry)) → Taken n block.new result (verifier_step t v (add_merkle (data_record key.now (option_map (λ x. x.now) value.entry)) (path_in above.now.len above.now.bits))) }
 {
     let path = key_path(key);
     let salt = block[SALT];

@@ -58,7 +58,7 @@ pub fn logged(mem: &mut [u64], limits: Limits, verifier: u64, entry: Entry<'_>) 
     requires bounded { Bounded limits }
     requires size { length mem.old ≡ words_for limits }
     ensures same { IsRefused result → mem.new ≡ mem.old }
-    ensures responds { (l : Meant) (es : List Happened) → GoodLimits all_entries l → Agrees limits l → Kept l mem.old (state l es) → EntryParts entry → Responds l (state l es) (logs verifier (entry_of entry)) mem.new result }
+    ensures responds { (l : Meant) (es : List Happened) → GoodLimits all_entries l → Agrees limits l → Kept l mem.old (state l es) → EntryParts entry.entry → Responds l (state l es) (logs verifier (entry_of entry.entry)) mem.new result }
 {
     if verifier >= limits.verifiers as u64 {
         return Answer::Refused(OUT_OF_RANGE, 0);

@@ -12,7 +12,7 @@ use wire::Entry;
 
 fn put_entry(to: &mut [u8], at: usize, entry: Entry<'_>) -> usize
     requires { at + entry_room (entry_of entry) ≤ length to.old }
-    ensures { page to.new result ≡ with_entry (page to.old at) (entry_of entry) }
+    ensures { page to.new result ≡ with_entry (page to.old at) (entry_of entry.entry) }
 {
     match entry {
         Entry::AddMerkle { record, above } => {
@@ -68,7 +68,7 @@ fn put_entry(to: &mut [u8], at: usize, entry: Entry<'_>) -> usize
 
 // The event at the front of `to`, and how many bytes it has. `None`, and `to` as it was, where `to` is shorter or a text is longer than 65,535.
 pub fn write_event(to: &mut [u8], verifier: u64, entry: Entry<'_>) -> Option<usize>
-    ensures { Writes (readable (logged verifier (entry_of entry))) (event_bytes verifier (entry_of entry)) to.old to.new result }
+    ensures { Writes (readable (logged verifier (entry_of entry.entry))) (event_bytes verifier (entry_of entry.entry)) to.old to.new result }
 {
     let Some(len) = event_len(verifier, entry) else {
         return None;

@@ -67,8 +67,8 @@ pub fn put_timestamp(to: &mut [u8], at: usize, timestamp: Timestamp) -> usize
 
 pub fn put_value(to: &mut [u8], at: usize, value: Option<&[u8]>) -> usize
     requires { at + value_room (value_of value) ≤ length to.old }
-    ensures end { result ≡ at + value_room (value_of value) }
-    ensures written { page to.new result ≡ with_value (page to.old at) (value_of value) }
+    ensures end { result ≡ at + value_room (value_of value.entry) }
+    ensures written { page to.new result ≡ with_value (page to.old at) (value_of value.entry) }
 {
     match value {
         None => put_byte(to, at, 0),
@@ -87,8 +87,8 @@ fn flag_byte(b: bool) -> u8
 
 fn put_pointer(to: &mut [u8], at: usize, pointer: Pointer<'_>) -> usize
     requires { at + pointer_room (pointer_of pointer) ≤ length to.old }
-    ensures end { result ≡ at + pointer_room (pointer_of pointer) }
-    ensures written { page to.new result ≡ with_pointer (page to.old at) (pointer_of pointer) }
+    ensures end { result ≡ at + pointer_room (pointer_of pointer.entry) }
+    ensures written { page to.new result ≡ with_pointer (page to.old at) (pointer_of pointer.entry) }
 {
     match pointer {
         Pointer::Absent => put_byte(to, at, 0),
@@ -107,8 +107,8 @@ fn put_pointer(to: &mut [u8], at: usize, pointer: Pointer<'_>) -> usize
 
 pub fn put_record(to: &mut [u8], at: usize, record: Record<'_>) -> usize
     requires { at + record_room (record_of «record») ≤ length to.old }
-    ensures end { result ≡ at + record_room (record_of «record») }
-    ensures written { page to.new result ≡ with_record (page to.old at) (record_of «record») }
+    ensures end { result ≡ at + record_room (record_of «record».entry) }
+    ensures written { page to.new result ≡ with_record (page to.old at) (record_of «record».entry) }
 {
     match record.contents {
         Contents::Value(value) => {

@@ -54,7 +54,7 @@ fn two_sized_len(first: &[u8], second: &[u8]) -> Option<usize>
 }
 
 fn value_len(value: Option<&[u8]>) -> Option<usize>
-    ensures value { result ≡ value_len (value_of value) }
+    ensures value { result ≡ value_len (value_of value.entry) }
     ensures most { IfSome result (λ n. n ≤ 65538) }
 {
     let Some(text) = value else {
@@ -67,7 +67,7 @@ fn value_len(value: Option<&[u8]>) -> Option<usize>
 }
 
 fn pointer_len(pointer: Pointer<'_>) -> Option<usize>
-    ensures value { result ≡ pointer_len (pointer_of pointer) }
+    ensures value { result ≡ pointer_len (pointer_of pointer.entry) }
     ensures most { IfSome result (λ n. n ≤ 65571) }
 {
     let Pointer::Present { path, hash, .. } = pointer else {
@@ -80,7 +80,7 @@ fn pointer_len(pointer: Pointer<'_>) -> Option<usize>
 }
 
 fn record_len(record: Record<'_>) -> Option<usize>
-    ensures value { result ≡ record_len (record_of «record») }
+    ensures value { result ≡ record_len (record_of «record».entry) }
     ensures most { IfSome result (λ n. n ≤ 196681) }
 {
     let Some(name) = sized_len(record.name) else {
@@ -114,7 +114,7 @@ fn timestamp_len(timestamp: Timestamp) -> usize
 
 // Each entry's fields, after the verifier and the code.
 fn fields_len(entry: Entry<'_>) -> Option<usize>
-    ensures value { result ≡ fields_len (entry_of entry) }
+    ensures value { result ≡ fields_len (entry_of entry.entry) }
     ensures most { IfSome result (λ n. n ≤ 262218) }
 {
     match entry {
@@ -171,7 +171,7 @@ fn fields_len(entry: Entry<'_>) -> Option<usize>
 
 // How many bytes the event has.
 pub fn event_len(verifier: u64, entry: Entry<'_>) -> Option<usize>
-    ensures { result ≡ (if readable (logged verifier (entry_of entry)) then Some (length (event_bytes verifier (entry_of entry))) else None) }
+    ensures { result ≡ (if readable (logged verifier (entry_of entry.entry)) then Some (length (event_bytes verifier (entry_of entry.entry))) else None) }
 {
     let head = number_len(verifier) + 1;
     let Some(fields) = fields_len(entry) else {

@@ -30,12 +30,12 @@ distance x l s n r b st h i = ap (λ (k : ℕ). leb (k + l.epochs) n) st.certifi
 pub returns-in_default : goal.returns-in_default
 returns-in_default c = record { packed = tt; listed = omega arith; refusal = λ l s t g st lt k. not_good l s t _ (sym (c.in_default.ensures.some l st.verifiers)) }
 
-pub returns-then-epoch-gt-LAST-EPOCH : goal.returns-then-epoch-gt-LAST-EPOCH
-returns-then-epoch-gt-LAST-EPOCH c = record {
+pub returns-then-epoch-gt-LAST_EPOCH : goal.returns-then-epoch-gt-LAST_EPOCH
+returns-then-epoch-gt-LAST_EPOCH c = record {
   packed = tt;
   listed = omega arith;
   refusal = λ l s t g st lt k.
-      beyond l s t _ (sym (c.named_epoch-epoch.ensures c.args.standing.places (verifier_at s.verifiers t) k).fits ∙ le-ltb c.named_epoch-epoch.result 4294967296 (omega (arith, c.if-epoch-gt-LAST-EPOCH.true)));
+      beyond l s t _ (sym (c.named_epoch-epoch.ensures c.args.standing.places (verifier_at s.verifiers t) k).fits ∙ le-ltb c.named_epoch-epoch.result 4294967296 (omega (arith, c.if-epoch-gt-LAST_EPOCH.true)));
 }
 
 pub returns-then-standing : goal.returns-then-standing
@@ -46,7 +46,7 @@ returns-then-standing c = record {
       let e = entry_of c.args.entry in
       let v = verifier_at s.verifiers t in
       let named = c.named_epoch-epoch.ensures c.args.standing.places v k in
-      stopped_before l s t e lt (supported l e g) (sym (c.in-Some.ensures.some l st.verifiers)) (fits v e _ named c.if-epoch-gt-LAST-EPOCH.false)
+      stopped_before l s t e lt (supported l e g) (sym (c.in-Some.ensures.some l st.verifiers)) (fits v e _ named c.if-epoch-gt-LAST_EPOCH.false)
       (st.stopped ∙ c.if-standing.true);
 }
 
@@ -58,7 +58,7 @@ returns-then-lacks_room c = record {
       let e = entry_of c.args.entry in
       let v = verifier_at s.verifiers t in
       let named = c.named_epoch-epoch.ensures c.args.standing.places v k in
-      no_room l s t e lt (supported l e g) (sym (c.in-Some.ensures.some l st.verifiers)) (fits v e _ named c.if-epoch-gt-LAST-EPOCH.false)
+      no_room l s t e lt (supported l e g) (sym (c.in-Some.ensures.some l st.verifiers)) (fits v e _ named c.if-epoch-gt-LAST_EPOCH.false)
       (st.stopped ∙ c.if-standing.false)
       (fullness c.args.standing l s v e _ true st c.code.ensures (c.if-lacks_room.ensures v k));
 }
@@ -71,10 +71,10 @@ returns-then-epoch-saturating_add c = record {
       let e = entry_of c.args.entry in
       let v = verifier_at s.verifiers t in
       let named = c.named_epoch-epoch.ensures c.args.standing.places v k in
-      too_far l s t e lt (supported l e g) (sym (c.in-Some.ensures.some l st.verifiers)) (fits v e _ named c.if-epoch-gt-LAST-EPOCH.false)
+      too_far l s t e lt (supported l e g) (sym (c.in-Some.ensures.some l st.verifiers)) (fits v e _ named c.if-epoch-gt-LAST_EPOCH.false)
       (st.stopped ∙ c.if-standing.false)
       (fullness c.args.standing l s v e _ false st c.code.ensures (c.if-lacks_room.ensures v k))
-      (distance c.args.standing l s _ c.named_epoch-epoch.result true st (epoch_is v e _ named c.if-epoch-gt-LAST-EPOCH.false) (far _ _ _ _ c.saturating_add.ensures c.if-epoch-gt-LAST-EPOCH.false c.if-epoch-saturating_add.true));
+      (distance c.args.standing l s _ c.named_epoch-epoch.result true st (epoch_is v e _ named c.if-epoch-gt-LAST_EPOCH.false) (far _ _ _ _ c.saturating_add.ensures c.if-epoch-gt-LAST_EPOCH.false c.if-epoch-saturating_add.true));
 }
 
 pub returns : goal.returns
@@ -85,8 +85,8 @@ returns c = record {
       let e = entry_of c.args.entry in
       let v = verifier_at s.verifiers t in
       let named = c.named_epoch-epoch.ensures c.args.standing.places v k in
-      taken l s t e lt (supported l e g) (sym (c.in-Some.ensures.some l st.verifiers)) (fits v e _ named c.if-epoch-gt-LAST-EPOCH.false)
+      taken l s t e lt (supported l e g) (sym (c.in-Some.ensures.some l st.verifiers)) (fits v e _ named c.if-epoch-gt-LAST_EPOCH.false)
       (st.stopped ∙ c.if-standing.false)
       (fullness c.args.standing l s v e _ false st c.code.ensures (c.if-lacks_room.ensures v k))
-      (distance c.args.standing l s _ c.named_epoch-epoch.result false st (epoch_is v e _ named c.if-epoch-gt-LAST-EPOCH.false) (near _ _ _ _ c.saturating_add.ensures c.if-epoch-gt-LAST-EPOCH.false c.if-epoch-saturating_add.false));
+      (distance c.args.standing l s _ c.named_epoch-epoch.result false st (epoch_is v e _ named c.if-epoch-gt-LAST_EPOCH.false) (near _ _ _ _ c.saturating_add.ensures c.if-epoch-gt-LAST_EPOCH.false c.if-epoch-saturating_add.false));
 }

@@ -4,6 +4,7 @@ use Rattle.model.specs.Records.{Path, Record, Pointer, Bytes, same_bytes, below,
 use Rattle.slot.specs.Meant.{child_meant}
 use Rattle.conditions.proofs.Added.{first_not, first, other_hash, by_blum, again, not_initial, not_node, not_below, between}
 use Rattle.conditions.proofs.way_of.Goals as goal
+use Rattle.slot.proofs.Numbers.{limbs_in}
 use Rattle.slot.specs.Layout.{number_in}
 
 -- what is said of a path, of the record that has it
@@ -17,53 +18,53 @@ hash_is : (x : Record) (h own : ℕ) (b : Bool) → b ≡ eqb h own → own ≡ 
 hash_is x h own b e o = ap (eqb h) (sym o) ∙ sym e
 
 pub returns-else-is_initial : goal.returns-else-is_initial
-returns-else-is_initial c = λ v x q above w. first_not v x q above _ (ap child_meant c.in-Absent.is) (sym c.if-is_initial.false ∙ w.initial-is)
+returns-else-is_initial c = λ v x q above w. first_not v x q above _ (ap child_meant c.in-Absent.is) (sym c.if-is_initial.false ∙ w.initial_is)
 
 pub returns-then-is_initial : goal.returns-then-is_initial
 returns-then-is_initial c = λ v x q above w. record {
-  step = first v x q above _ (ap child_meant c.in-Absent.is) (sym c.if-is_initial.true ∙ w.initial-is);
+  step = first v x q above _ (ap child_meant c.in-Absent.is) (sym c.if-is_initial.true ∙ w.initial_is);
   own = tt;
   over = tt;
 }
 
 pub returns-then-by_blum : goal.returns-then-by_blum
 returns-then-by_blum c = λ v x q above w.
-    by_blum v x q above _ _ _ _ (ap child_meant c.in-Present.is) (of_record x (same_bytes _) _ true w.path-is c.if-is_same.ensures) c.if-by_blum.true
+    by_blum v x q above _ _ _ _ (ap child_meant c.in-Present.is) (of_record x (same_bytes _) _ true w.path_is c.if-is_same.ensures) c.if-by_blum.true
 
 pub returns-then-not-same_hash : goal.returns-then-not-same_hash
 returns-then-not-same_hash c = λ v x q above w.
-    other_hash v x q above _ _ _ _ (ap child_meant c.in-Present.is) (of_record x (same_bytes _) _ true w.path-is c.if-is_same.ensures)
-    (hash_is x _ _ false c.if-not-same_hash.ensures (own_hash x _ _ c.digest-own.ensures.number w.bytes_are))
+    other_hash v x q above _ _ _ _ (ap child_meant c.in-Present.is) (of_record x (same_bytes _) _ true w.path_is c.if-is_same.ensures)
+    (hash_is x _ _ false c.if-not-same_hash.ensures (own_hash x _ _ (limbs_in c.digest-own.result ∙ c.digest-own.ensures.number) w.bytes_are))
 
 pub returns-then-is_same : goal.returns-then-is_same
 returns-then-is_same c = λ v x q above w.
-    let own = own_hash x _ _ c.digest-own.ensures.number w.bytes_are in
+    let own = own_hash x _ _ (limbs_in c.digest-own.result ∙ c.digest-own.ensures.number) w.bytes_are in
     record {
-      step = again v x q above _ _ _ _ (ap child_meant c.in-Present.is) (of_record x (same_bytes _) _ true w.path-is c.if-is_same.ensures) (hash_is x _ _ true c.if-not-same_hash.ensures own) c.if-by_blum.false;
+      step = again v x q above _ _ _ _ (ap child_meant c.in-Present.is) (of_record x (same_bytes _) _ true w.path_is c.if-is_same.ensures) (hash_is x _ _ true c.if-not-same_hash.ensures own) c.if-by_blum.false;
       own = own;
       over = tt;
     }
 
 pub returns-then-not-is_initial : goal.returns-then-not-is_initial
 returns-then-not-is_initial c = λ v x q above w.
-    not_initial v x q above _ _ _ _ (ap child_meant c.in-Present.is) (of_record x (same_bytes _) _ false w.path-is c.if-is_same.ensures) (sym c.if-not-is_initial.true ∙ w.initial-is)
+    not_initial v x q above _ _ _ _ (ap child_meant c.in-Present.is) (of_record x (same_bytes _) _ false w.path_is c.if-is_same.ensures) (sym c.if-not-is_initial.true ∙ w.initial_is)
 
 pub returns-then-not-of_node : goal.returns-then-not-of_node
 returns-then-not-of_node c = λ v x q above w.
-    not_node v x q above _ _ _ _ (ap child_meant c.in-Present.is) (of_record x (same_bytes _) _ false w.path-is c.if-is_same.ensures) (sym c.if-not-of_node.true ∙ w.node-is)
+    not_node v x q above _ _ _ _ (ap child_meant c.in-Present.is) (of_record x (same_bytes _) _ false w.path_is c.if-is_same.ensures) (sym c.if-not-of_node.true ∙ w.node_is)
 
 pub returns-then-not-is_below : goal.returns-then-not-is_below
 returns-then-not-is_below c = λ v x q above w.
-    not_below v x q above _ _ _ _ (ap child_meant c.in-Present.is) (of_record x (same_bytes _) _ false w.path-is c.if-is_same.ensures)
-    (sym (of_record x (below _) _ false w.path-is c.if-not-is_below.ensures))
+    not_below v x q above _ _ _ _ (ap child_meant c.in-Present.is) (of_record x (same_bytes _) _ false w.path_is c.if-is_same.ensures)
+    (sym (of_record x (below _) _ false w.path_is c.if-not-is_below.ensures))
 
 pub returns-else-not-is_below : goal.returns-else-not-is_below
 returns-else-not-is_below c = λ v x q above w.
-    let is = sym c.if-not-of_node.false ∙ w.node-is in
+    let is = sym c.if-not-of_node.false ∙ w.node_is in
     record {
       step =
-          between v x q above _ _ _ _ (ap child_meant c.in-Present.is) (of_record x (same_bytes _) _ false w.path-is c.if-is_same.ensures) (sym c.if-not-is_initial.false ∙ w.initial-is) is
-          (sym (of_record x (below _) _ true w.path-is c.if-not-is_below.ensures));
+          between v x q above _ _ _ _ (ap child_meant c.in-Present.is) (of_record x (same_bytes _) _ false w.path_is c.if-is_same.ensures) (sym c.if-not-is_initial.false ∙ w.initial_is) is
+          (sym (of_record x (below _) _ true w.path_is c.if-not-is_below.ensures));
       own = tt;
       over = not-true _ (sym is);
     }

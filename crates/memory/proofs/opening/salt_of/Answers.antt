@@ -1,6 +1,7 @@
 use Rattle.std.proofs.Common.{ℕ, ◌%◌, List, [], ◌∷◌, ◌++◌, ap, ◌∙◌, arith, length-append}
 use Rattle.model.specs.Records.{hash_of}
 use Rattle.memory.proofs.Opened.{first_word}
+use Rattle.slot.proofs.Numbers.{limbs_in}
 use Rattle.memory.proofs.opening.salt_of.Goals as goal
 
 pub slice_bounds-digest-end : goal.slice_bounds-digest-end
@@ -10,4 +11,4 @@ pub returns : goal.returns
 returns c =
     let r = c.digest-hash.result in
     first_word r (omega (arith, c.digest-hash.ensures.limbs)) (omega (arith, c.digest-hash.ensures.limbs))
-    ∙ ap (λ (n : ℕ). n % 18446744073709551616) (c.digest-hash.ensures.number ∙ ap (λ (xs : List ℕ). hash_of (xs ++ (0 ∷ []))) c.copy_from_slice.ensures.after)
+    ∙ ap (λ (n : ℕ). n % 18446744073709551616) (limbs_in r ∙ c.digest-hash.ensures.number ∙ ap (λ (xs : List ℕ). hash_of (xs ++ (0 ∷ []))) c.copy_from_slice.ensures.after)

@@ -2,8 +2,8 @@ use Rattle.std.proofs.Common.{◌≡◌, ◌+◌, length, Some, ap, ◌∙◌, a
 use Rattle.wire_write.proofs.Measured.{sized_too_long, sized_fits}
 use Rattle.wire_write.proofs.lengths.sized_len.Goals as goal
 
-pub returns-then-len-gt-LONGEST-TEXT : goal.returns-then-len-gt-LONGEST-TEXT
-returns-then-len-gt-LONGEST-TEXT c = record { value = sized_too_long c.args.text.now (omega arith); most = tt }
+pub returns-then-len-gt-LONGEST_TEXT : goal.returns-then-len-gt-LONGEST_TEXT
+returns-then-len-gt-LONGEST_TEXT c = record { value = sized_too_long c.args.text.now (omega arith); most = tt }
 
 pub returns : goal.returns
 returns c =
