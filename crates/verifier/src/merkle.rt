@@ -1,7 +1,7 @@
 // Entries by Merkle.
 ghost use Rattle.std.specs.Prelude.{◌≡◌, ℕ, ◌<◌, ◌≤◌, false, ◌&&◌, length, IfSome, is_ok};
 ghost use Rattle.std.specs.Option.{option_map};
-ghost use Rattle.model.specs.Records.{data_record, node, is_absent, merkle_bytes};
+ghost use Rattle.model.specs.Records.{data_record, node, is_absent, merkle_bytes as bytes_of};
 ghost use Rattle.model.specs.Verifier.{Verifier, verifier_step, add_merkle, evict_merkle};
 ghost use Rattle.path.specs.Packs.{path_in};
 ghost use Rattle.slot.specs.Meant.{child_meant};
@@ -27,7 +27,7 @@ pub fn add_merkle_data(
     requires key { length key.now ≤ 64 }
     requires value { IfSome value (λ v. length v.now ≤ 1024) }
     ensures same { is_ok result ≡ false → block.new ≡ block.old }
-    ensures step { (t : ℕ) (v : Verifier) → Keeps n block.old v → length v.store < n → merkle_bytes.now ≡ merkle_bytes (data_record key.now (option_map (λ x. x.now) value.entry)) → Taken n block.new result (verifier_step t v (add_merkle (data_record key.now (option_map (λ x. x.now) value.entry)) (path_in above.now.len above.now.bits))) }
+    ensures step { (t : ℕ) (v : Verifier) → Keeps n block.old v → length v.store < n → merkle_bytes.now ≡ bytes_of (data_record key.now (option_map (λ x. x.now) value.entry)) → Taken n block.new result (verifier_step t v (add_merkle (data_record key.now (option_map (λ x. x.now) value.entry)) (path_in above.now.len above.now.bits))) }
 {
     let path = key_path(key);
     let salt = block[SALT];
@@ -59,7 +59,7 @@ pub fn add_merkle_node(
     requires few { 2 ≤ n }
     requires room { length block.old ≡ block_words n }
     ensures same { is_ok result ≡ false → block.new ≡ block.old }
-    ensures step { (t : ℕ) (v : Verifier) → Keeps n block.old v → length v.store < n → merkle_bytes.now ≡ merkle_bytes (node (path_in path.now.len path.now.bits) (record { left = child_meant left.now; right = child_meant right.now })) → Taken n block.new result (verifier_step t v (add_merkle (node (path_in path.now.len path.now.bits) (record { left = child_meant left.now; right = child_meant right.now })) (path_in above.now.len above.now.bits))) }
+    ensures step { (t : ℕ) (v : Verifier) → Keeps n block.old v → length v.store < n → merkle_bytes.now ≡ bytes_of (node (path_in path.now.len path.now.bits) (record { left = child_meant left.now; right = child_meant right.now })) → Taken n block.new result (verifier_step t v (add_merkle (node (path_in path.now.len path.now.bits) (record { left = child_meant left.now; right = child_meant right.now })) (path_in above.now.len above.now.bits))) }
 {
     let salt = block[SALT];
     let past = STORE + 192 * n;
