@@ -1,5 +1,5 @@
 -- Bytes written one after the other.
-use Rattle.std.proofs.Common.{◌≡◌, ℕ, ◌+◌, ◌<◌, ◌≤◌, List, [], ◌∷◌, ◌++◌, length, take, drop, set, sym, refl, ap, ◌∙◌, subst, add-zero, arith, length-append, length-take-le}
+use Rattle.std.proofs.Common.{◌≡◌, ℕ, ◌+◌, ◌<◌, ◌≤◌, List, [], ◌∷◌, ◌++◌, length, take, set, sym, refl, ap, ◌∙◌, subst, add-zero, arith, length-append, length-take-le}
 use lib.Seq.{paste}
 use Rattle.std.proofs.lemmas.List.Edits.{paste_none, paste_more, paste-paste}
 use Rattle.record.proofs.Spread.{paste_taken}

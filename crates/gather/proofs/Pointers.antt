@@ -1,5 +1,5 @@
 -- The bytes of a child pointer, by its words.
-use Rattle.std.proofs.Common.{◌≡◌, ℕ, ◌*◌, eqb, List, [], ◌∷◌, ◌++◌, length, get_or, take, sym, refl, ap, ◌∙◌, arith, take_all}
+use Rattle.std.proofs.Common.{◌≡◌, ℕ, ◌*◌, eqb, List, [], ◌∷◌, ◌++◌, length, get_or, take, sym, ap, ◌∙◌, arith, take_all}
 use Rattle.std.proofs.lemmas.Bool.{eq-eqb, ne_eqb}
 use Rattle.model.specs.Records.{pick, le_bytes, sized_bytes, absent, present, pointer_bytes}
 use Rattle.path.specs.Packs.{path_in, Fit}

@@ -1,9 +1,9 @@
 -- The bytes of the record in a slot, by its kind.
-use Rattle.std.proofs.Common.{◌≡◌, ℕ, eqb, List, [], ◌∷◌, ◌++◌, get_or, Some, None, sym, refl, ap, ◌∙◌, arith}
+use Rattle.std.proofs.Common.{◌≡◌, ℕ, eqb, List, [], ◌∷◌, ◌++◌, get_or, Some, None, sym, ap, ◌∙◌, arith}
 use Rattle.std.proofs.lemmas.Bool.{eq-eqb, ne_eqb}
-use Rattle.model.specs.Records.{pick, sized_bytes, Value, data_record, node, pointer_bytes, value_bytes, merkle_bytes, record_bytes}
+use Rattle.model.specs.Records.{sized_bytes, Value, data_record, pointer_bytes, value_bytes, merkle_bytes, record_bytes}
 use Rattle.slot.specs.Parts.{part}
-use Rattle.slot.specs.Layout.{pointer_in, children_in, slot_path, slot_key, slot_text, slot_value, rec_in}
+use Rattle.slot.specs.Layout.{pointer_in, slot_path, slot_key, slot_text, slot_value, rec_in}
 use Rattle.slot.proofs.Finding.{pick_true, pick_false}
 use Rattle.slot.proofs.Children.{node_stored}
 

@@ -1,6 +1,6 @@
 -- The steps along a chain, and what a write leaves of it.
-use Rattle.std.proofs.Common.{◌≡◌, ℕ, zero, suc, ◌+◌, ◌-◌, ◌*◌, ◌<◌, ◌≤◌, Bool, true, false, ◌||◌, eqb, List, [], ◌∷◌, ◌++◌, length, get_or, take, drop, set, sym, refl, ap, ◌∙◌, subst, ⊎_elim, add-zero, arith, length-drop, get_or-drop, get_or-set_other, get_or-set_same}
-use Rattle.std.proofs.lemmas.Bool.{or_parts, or_left, or_right, eq-eqb, eqb-false, cases_eq, both_ways}
+use Rattle.std.proofs.Common.{◌≡◌, ℕ, zero, suc, ◌+◌, ◌-◌, ◌<◌, ◌≤◌, true, false, ◌||◌, eqb, List, [], ◌∷◌, ◌++◌, length, get_or, drop, set, sym, refl, ap, ◌∙◌, subst, add-zero, arith, length-drop, get_or-drop, get_or-set_other}
+use Rattle.std.proofs.lemmas.Bool.{or_parts, or_left, or_right, eq-eqb, eqb-false}
 use Rattle.index.specs.Chains.{Chain, link_after, has}
 
 pub chain_zero : (n : ℕ) (m : List ℕ) (h : ℕ) (xs : List ℕ) → Chain n m h xs → h ≡ 0 → xs ≡ []

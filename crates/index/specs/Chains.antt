@@ -1,5 +1,5 @@
 -- Slots by a hash of their paths: word b holds the first of bucket b, word n + i what comes after slot i; 0 is none, and i + 1 is slot i.
-use Rattle.std.specs.Prelude.{◌≡◌, ℕ, zero, suc, ◌+◌, ◌*◌, ◌<◌, ◌≤◌, Bool, true, false, ◌&&◌, ◌||◌, List, [], ◌∷◌, ◌++◌, length, ◌==◌, slice_index, slice_index_or}
+use Rattle.std.specs.Prelude.{◌≡◌, ℕ, suc, ◌+◌, ◌*◌, ◌<◌, ◌≤◌, Bool, true, false, ◌&&◌, ◌||◌, List, [], ◌∷◌, length, ◌==◌, slice_index, slice_index_or}
 use Rattle.model.specs.Records.{same_bytes}
 use Rattle.slot.specs.Parts.{part}
 use Rattle.slot.specs.Layout.{slot_words}

@@ -1,5 +1,5 @@
 -- The first line of a log file: the text of limits, and what a line is read as.
-use Rattle.std.specs.Prelude.{ℕ, ◌+◌, ◌-◌, ◌*◌, min, Bool, true, false, cond, ◌&&◌, ◌||◌, List, [], ◌∷◌, ◌++◌, Some, None, Ok, Err, decimal, Option, Result, ◌==◌, nat_le, nat_lt}
+use Rattle.std.specs.Prelude.{ℕ, ◌+◌, ◌-◌, ◌*◌, min, Bool, cond, ◌&&◌, ◌||◌, List, [], ◌∷◌, ◌++◌, Some, None, Ok, Err, decimal, Option, Result, ◌==◌, nat_le, nat_lt}
 use Rattle.logfile.specs.declared.limits.Limits.{Limits}
 use Rattle.logfile.specs.declared.limits.LineRefusal.{LineRefusal}
 use Rattle.logfile.specs.declared.limits.LineRefusal.TheVariants.{NotThreeNumbers, Verifiers, Places, Epochs}

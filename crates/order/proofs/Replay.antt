@@ -1,5 +1,5 @@
 -- The core theorem: in any replay of right entries in which each AddBlum is matched, every get has what was set last, or two records or keys that were hashed collide.
-use Rattle.std.proofs.Common.{◌≡◌, ℕ, ◌+◌, Bool, true, false, eqb, ◌⊎◌, List, [], ◌∷◌, ◌++◌, sym, refl, ap, ◌∙◌, subst, inl, inr, arith}
+use Rattle.std.proofs.Common.{◌≡◌, ℕ, Bool, true, false, eqb, ◌⊎◌, List, [], ◌∷◌, ◌++◌, sym, refl, ap, ◌∙◌, subst, inl, inr, arith}
 use Rattle.std.proofs.lemmas.Bool.{false≢true, and_from, eq-eqb, ne_eqb, cases_eq}
 use Rattle.model.specs.Records.{pick, Bytes, Path, key_path, node, present, no_children, Record, path_of}
 use Rattle.model.specs.Verifier.{Entry, Stored, Verifier, find, nonempty, goes, Element, verifier_step, new_verifier}

@@ -1,5 +1,5 @@
 -- The entries of a log that are in certified epochs, in the order of the clocks that they leave.
-use Rattle.std.proofs.Common.{◌≡◌, ℕ, ◌+◌, ◌<◌, Bool, true, false, eqb, ltb, ◌⊎◌, List, [], ◌∷◌, ◌++◌, length, sym, refl, ap, ◌∙◌, subst, inl, inr, arith, length-append}
+use Rattle.std.proofs.Common.{◌≡◌, ℕ, ◌<◌, Bool, true, false, eqb, ltb, ◌⊎◌, List, [], ◌∷◌, ◌++◌, length, sym, refl, ap, ◌∙◌, subst, inl, inr, arith, length-append}
 use Rattle.std.proofs.lemmas.Bool.{both_ways, ltb-true, lt-ltb, ne_eqb, cases_eq}
 use Rattle.model.specs.Records.{pick, Record}
 use Rattle.model.specs.Verifier.{Timestamp, earlier, verifier_step}

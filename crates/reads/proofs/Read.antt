@@ -1,7 +1,7 @@
 -- What is read from a slot.
-use Rattle.std.proofs.Common.{◌≡◌, ℕ, zero, suc, ◌+◌, ◌-◌, ◌*◌, ◌<◌, ◌≤◌, Bool, true, false, not, ◌&&◌, ◌||◌, eqb, List, [], ◌∷◌, length, get_or, drop, Some, None, sym, refl, ap, ◌∙◌, subst, ⊎_elim, add-zero, arith}
-use Rattle.std.proofs.lemmas.Bool.{both_ways, ne_eqb, eq-eqb, cases_eq}
-use Rattle.model.specs.Records.{Path, Pointer, Children, Record, Bytes, Value, absent, present, same_bytes, same_value, pick, is_data, children_of, child_on, node, data_record}
+use Rattle.std.proofs.Common.{◌≡◌, ℕ, zero, suc, ◌+◌, ◌-◌, ◌*◌, ◌<◌, ◌≤◌, true, false, not, eqb, List, [], ◌∷◌, get_or, Some, None, sym, refl, ap, ◌∙◌, ⊎_elim, add-zero, arith}
+use Rattle.std.proofs.lemmas.Bool.{ne_eqb, eq-eqb, cases_eq}
+use Rattle.model.specs.Records.{Path, Children, Record, Bytes, Value, absent, present, same_bytes, same_value, pick, is_data, children_of, child_on, node, data_record}
 use Rattle.slot.specs.Parts.{part}
 use Rattle.slot.specs.Layout.{rec_in, children_in, pointer_in, slot_path, slot_key, slot_text, slot_value, number_in}
 use Rattle.path.specs.Packs.{path_in}

@@ -1,9 +1,9 @@
 -- The words of a child pointer, and a slot with another child pointer.
-use Rattle.std.proofs.Common.{◌≡◌, ℕ, zero, suc, ◌+◌, ◌-◌, ◌*◌, ◌<◌, ◌≤◌, Bool, true, false, eqb, List, [], ◌∷◌, ◌++◌, length, get_or, take, drop, set, sym, refl, ap, ◌∙◌, subst, ⊎_elim, append-nil, arith, lit≤, length-drop, take_at, drop_at}
+use Rattle.std.proofs.Common.{◌≡◌, ℕ, zero, suc, ◌+◌, ◌*◌, ◌<◌, ◌≤◌, Bool, true, false, eqb, List, [], ◌∷◌, ◌++◌, length, get_or, take, drop, set, sym, refl, ap, ◌∙◌, subst, ⊎_elim, append-nil, arith, lit≤, length-drop, take_at, drop_at}
 use lib.Seq.{take-set-le}
 use Rattle.std.proofs.lemmas.List.{drop_all}
 use Rattle.std.proofs.lemmas.Bool.{both_ways, ne_eqb, cases_eq}
-use Rattle.model.specs.Records.{Pointer, absent, present, pick, Children, Record, node, data_record, with_child, path_of, is_data, children_of}
+use Rattle.model.specs.Records.{Pointer, present, pick, Children, Record, node, data_record, with_child, path_of, is_data, children_of}
 use Rattle.model.specs.Verifier.{Stored}
 use Rattle.path.specs.Packs.{path_in, Packs, word_bits}
 use Rattle.model.specs.Records.{bits}

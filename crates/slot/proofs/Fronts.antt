@@ -6,7 +6,7 @@ use Rattle.std.proofs.lemmas.Slice.{take-put_mid_below}
 use Rattle.model.specs.Records.{path_of}
 use Rattle.path.specs.Packs.{path_in, Packs}
 use Rattle.slot.specs.Parts.{part, put}
-use Rattle.slot.specs.Layout.{rec_in, slot_path, PointerPacks, Shaped, Slot}
+use Rattle.slot.specs.Layout.{rec_in, PointerPacks, Shaped, Slot}
 
 -- what the first f words say
 module _ (f : ℕ) (w w' : List ℕ) (front : take f w' ≡ take f w) where

@@ -1,5 +1,5 @@
 -- What the writes of whole records leave in a slot.
-use Rattle.std.proofs.Common.{◌≡◌, ℕ, zero, suc, ◌+◌, ◌*◌, ◌/◌, ◌<◌, ◌≤◌, Bool, true, false, eqb, List, [], ◌∷◌, ◌++◌, length, get_or, take, drop, set, Some, None, sym, refl, ap, ◌∙◌, subst, arith, length-set, length-take, get_or-set_other, get_or-set_same, drop_at}
+use Rattle.std.proofs.Common.{◌≡◌, ℕ, zero, suc, ◌+◌, ◌*◌, ◌/◌, ◌<◌, ◌≤◌, Bool, true, eqb, List, ◌++◌, length, get_or, take, drop, set, Some, None, sym, refl, ap, ◌∙◌, subst, arith, length-set, length-take, get_or-set_other, get_or-set_same, drop_at}
 use lib.Seq.{take-set-le}
 use Rattle.std.proofs.lemmas.Bool.{both_ways, ne_eqb}
 use Rattle.model.specs.Records.{pick, Bytes, Path, Pointer, Value, Record, data_record, node, path_of, is_data, key_path, merkle_hash}
@@ -8,9 +8,9 @@ use Rattle.path.specs.Packs.{path_in, Packs}
 use Rattle.slot.specs.Parts.{part, put}
 use Rattle.slot.specs.Layout.{pointer_in, children_in, slot_path, slot_key, slot_text, slot_value, rec_in, stored_in, number_in, bytes_in, PointerPacks, Shaped, Slot}
 use Rattle.slot.specs.Edits.{KeepsPath, Edited, Headed}
-use Rattle.slot.proofs.Parted.{length_put, part_put, part_before, part_after, at_before, at_after, part_set_before, part_set_after}
+use Rattle.slot.proofs.Parted.{length_put, part_put, part_before, at_before, part_set_before, part_set_after}
 use Rattle.slot.proofs.Fronts.{at_front, part_front, front_put, at_same, part_same, rec_same, shaped_same, unmarked, rec_unmarked}
-use Rattle.slot.proofs.Finding.{pick_true, pick_false}
+use Rattle.slot.proofs.Finding.{pick_false}
 use Rattle.slot.proofs.Children.{node_stored}
 use Rattle.slot.proofs.Texts.{text_front}
 

@@ -5,7 +5,7 @@
 -- of a data record, 8 the key's length, 9 to 16 the key, 17 the value's length, 18 to 145 the value, eight bytes to a word, the low one first;
 -- 146 to 149 the hash, the low word first, 150 a mark: 1 if the record hasn't changed since it was added, so that this is its hash.
 -- Words of a pointer: 0 what it is (0 absent, 1 evicted by Merkle, 2 by Blum), 1 the length of the path that it points at, 2 to 5 its bits, 6 to 9 the hash.
-use Rattle.std.specs.Prelude.{◌≡◌, ℕ, ◌+◌, ◌*◌, ◌^◌, ◌<◌, ◌≤◌, Bool, List, [], ◌∷◌, ◌++◌, length, take, Some, None, ◌==◌, ◌≢◌, slice_index, slice_index_or}
+use Rattle.std.specs.Prelude.{◌≡◌, ℕ, ◌+◌, ◌*◌, ◌^◌, ◌<◌, ◌≤◌, List, [], ◌∷◌, ◌++◌, length, take, Some, None, ◌==◌, ◌≢◌, slice_index, slice_index_or}
 use Rattle.model.specs.Records.{pick, Bytes, Path, le_bytes, Pointer, absent, present, Children, with_child, Value, Record, data_record, node, path_of, merkle_hash}
 use Rattle.model.specs.Verifier.{Stored}
 use Rattle.path.specs.Packs.{path_in, Packs}

@@ -67,7 +67,7 @@ pub fn add_blum(
             block,
             n,
             &packed.path,
-            &packed.left,
+            &packed.left, // each child on its own side
             &packed.right,
             timestamp,
         ),

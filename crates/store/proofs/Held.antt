@@ -1,9 +1,9 @@
 -- What is found, and what is held after a record was taken out, added or changed.
-use Rattle.std.proofs.Common.{◌≡◌, ℕ, zero, suc, ◌+◌, ◌-◌, ◌*◌, ◌%◌, ◌^◌, ◌<◌, ◌≤◌, Bool, true, false, ◌⊎◌, List, [], ◌∷◌, ◌++◌, map, length, get_or, take, drop, set, sym, refl, ap, ◌∙◌, subst, inl, inr, ⊎_elim, arith, length-append, length-drop, length-set, length-take, get_or-set_other, get_or-take, get_or-set_same}
+use Rattle.std.proofs.Common.{◌≡◌, ℕ, suc, ◌+◌, ◌-◌, ◌*◌, ◌<◌, ◌≤◌, true, false, ◌⊎◌, List, [], ◌∷◌, ◌++◌, map, length, get_or, take, drop, set, sym, refl, ap, ◌∙◌, subst, inl, inr, ⊎_elim, arith, length-append, length-drop, length-set, length-take, get_or-set_other, get_or-take, get_or-set_same}
 use lib.Bits.{bit_or, bit_xor}
 use lib.Seq.{split_at}
 use Rattle.std.proofs.lemmas.List.{get_or_past, get_or-map, length-map}
-use Rattle.std.proofs.lemmas.Bool.{cases_lt, cases_eq, cases_Bool, both_ways}
+use Rattle.std.proofs.lemmas.Bool.{cases_lt, cases_eq, cases_Bool}
 use Rattle.std.proofs.lemmas.Nat.{mod_below}
 use Rattle.model.specs.Records.{same_bytes, Path, pick, path_of, Record}
 use Rattle.path.specs.Packs.{path_in, Fit}
@@ -13,7 +13,7 @@ use Rattle.slot.specs.Parts.{part, put}
 use Rattle.slot.specs.Layout.{stored_in, Slot, rec_in}
 use Rattle.slot.specs.Finds.{position, is_at, all_at}
 use Rattle.slot.proofs.Finding.{find_all, find_position, find_none, all_without, without_other, without_none, pick_false, all_updated, updated_other, updated_position, length_updated, length_without}
-use Rattle.index.specs.Chains.{Chain, Index, has, says, Once}
+use Rattle.index.specs.Chains.{Index, has, says, Once}
 use Rattle.index.proofs.Chained.{chain_step}
 use Rattle.index.proofs.Indexed.{more_before, in_middle, has_first, has_cases, once_head}
 use Rattle.store.specs.Holding.{mixed, home, slot_home, slot_at, stored_at, total, Packing, Held, Holds, Found}

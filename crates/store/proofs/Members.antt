@@ -1,19 +1,18 @@
 -- Members of chains, how many there are, and what the words of slots say.
-use Rattle.std.proofs.Common.{◌≡◌, ℕ, zero, suc, ◌+◌, ◌-◌, ◌*◌, ◌^◌, ◌<◌, ◌≤◌, Bool, true, false, ◌&&◌, ◌||◌, eqb, ◌⊎◌, List, [], ◌∷◌, ◌++◌, map, length, get_or, take, drop, set, sym, refl, ap, ◌∙◌, subst, inl, inr, ⊎_elim, arith, length-drop, length-take, get_or-drop, get_or-take, take-take, drop-drop}
-use Rattle.std.proofs.lemmas.List.{drop-take, get_or_past}
+use Rattle.std.proofs.Common.{◌≡◌, ℕ, zero, suc, ◌+◌, ◌-◌, ◌*◌, ◌<◌, ◌≤◌, Bool, true, false, ◌&&◌, List, [], ◌∷◌, ◌++◌, map, length, get_or, take, drop, set, sym, refl, ap, ◌∙◌, subst, ⊎_elim, arith, length-drop, length-take}
 use Rattle.std.proofs.lemmas.Bool.{cases_lt, cases_Bool, both_ways, ne_eqb, eq-eqb, cases_eq}
-use Rattle.model.specs.Records.{pick, same_bytes, path_of}
+use Rattle.model.specs.Records.{pick, same_bytes}
 use Rattle.path.specs.Packs.{path_in, Packs, Fit}
-use Rattle.model.specs.Verifier.{Stored, find, without}
+use Rattle.model.specs.Verifier.{Stored, without}
 use Rattle.path.proofs.Same.{same_refl, same_is, same_length, same_true}
 use Rattle.path.proofs.Words.{length_path}
 use Rattle.path.proofs.Less.{same_packed}
 use Rattle.slot.specs.Parts.{part, put}
-use Rattle.slot.specs.Layout.{stored_in, Slot, slot_path, rec_in}
+use Rattle.slot.specs.Layout.{stored_in, Slot, slot_path}
 use Rattle.slot.specs.Finds.{position, is_at}
 use Rattle.slot.proofs.Finding.{pick_true, pick_false}
 use Rattle.index.specs.Chains.{Chain, has, says, Once}
-use Rattle.index.proofs.Indexed.{has_first, has_later, has_cases, has_nil, chain_head, once_head, once_tail, in_middle, more_before}
+use Rattle.index.proofs.Indexed.{has_first, has_later, has_cases, has_nil, chain_head, once_head, once_tail, in_middle}
 use Rattle.slot.proofs.Parted.{part_before, part_after, part_part, get_d_part}
 use Rattle.store.specs.Holding.{Packing, total, home, slot_home, slot_at}
 

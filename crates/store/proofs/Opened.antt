@@ -1,16 +1,15 @@
 -- The chains at the beginning.
-use Rattle.std.proofs.Common.{◌≡◌, ℕ, zero, suc, ◌+◌, ◌-◌, ◌*◌, ◌<◌, ◌≤◌, Bool, true, false, List, [], ◌∷◌, ◌++◌, map, length, get_or, take, drop, set, replicate, sym, refl, ap, ◌∙◌, subst, ⊎_elim, add-one, arith, length-set, length-take, get_or-set_other, get_or-take, get_or-set_same, set-set}
+use Rattle.std.proofs.Common.{◌≡◌, ℕ, zero, suc, ◌+◌, ◌-◌, ◌*◌, ◌<◌, ◌≤◌, true, false, List, [], ◌∷◌, map, length, get_or, set, replicate, sym, refl, ap, ◌∙◌, subst, ⊎_elim, add-one, arith, length-take, get_or-set_other, get_or-take, get_or-set_same, set-set}
 use lib.ListN.{length-replicate}
 use lib.Seq.{set-get_or}
 use Rattle.std.proofs.lemmas.List.{get_or-replicate}
-use Rattle.std.proofs.lemmas.Bool.{cases_eq, cases_Bool, cases_lt}
-use Rattle.model.specs.Verifier.{Stored}
+use Rattle.std.proofs.lemmas.Bool.{cases_eq, cases_Bool}
 use Rattle.path.specs.Packs.{path_in}
 use Rattle.slot.specs.Parts.{part}
 use Rattle.slot.specs.Finds.{all_at}
 use Rattle.index.specs.Chains.{Chain, Index, has, Once}
 use Rattle.index.proofs.Indexed.{has_nil, has_cases}
-use Rattle.store.specs.Holding.{home, stored_at, total, Packing, Held, slots_below, free_below}
+use Rattle.store.specs.Holding.{home, stored_at, total, Held, slots_below, free_below}
 use Rattle.store.proofs.Members.{total_set}
 use Rattle.store.proofs.Held.{home_below}
 

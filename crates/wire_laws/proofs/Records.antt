@@ -1,5 +1,5 @@
 -- The laws of values, child pointers and records.
-use Rattle.std.proofs.Common.{◌≡◌, ℕ, zero, suc, ◌+◌, ◌-◌, ◌<◌, true, false, ◌&&◌, eqb, List, [], ◌∷◌, ◌++◌, Some, None, sym, refl, ap, ◌∙◌, arith}
+use Rattle.std.proofs.Common.{◌≡◌, ℕ, zero, suc, ◌<◌, true, false, ◌&&◌, eqb, List, [], ◌∷◌, ◌++◌, Some, None, sym, refl, ap, ◌∙◌, arith}
 use Rattle.std.proofs.lemmas.Bool.{eqb-true, and_parts, and_from}
 use Rattle.model.specs.Records.{pick, Pointer, absent, present, Value, Record, data_record, node, le_bytes, sized_bytes, value_bytes, pointer_bytes, merkle_bytes, record_bytes}
 use Rattle.model.specs.Readable.{readable_bytes, readable_value, readable_pointer, readable_record}

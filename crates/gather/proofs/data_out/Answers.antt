@@ -1,4 +1,4 @@
-use Rattle.std.proofs.Common.{◌≡◌, ℕ, ◌≤◌, min, List, [], ◌∷◌, ◌++◌, length, get_or, take, sym, ap, ◌∙◌, arith}
+use Rattle.std.proofs.Common.{◌≡◌, ℕ, [], ◌∷◌, length, get_or, take, sym, ap, ◌∙◌, arith}
 use Rattle.model.specs.Records.{sized_bytes, merkle_bytes}
 use Rattle.slot.specs.Parts.{part}
 use Rattle.slot.specs.Layout.{bytes_in, rec_in}

@@ -1,4 +1,4 @@
-use Rattle.std.proofs.Common.{◌≡◌, ℕ, ◌≤◌, min, List, [], ◌∷◌, ◌++◌, length, get_or, take, sym, ap, ◌∙◌, arith}
+use Rattle.std.proofs.Common.{◌≡◌, [], ◌∷◌, ◌++◌, length, sym, arith}
 use Rattle.model.specs.Records.{pointer_bytes, merkle_bytes}
 use Rattle.slot.specs.Parts.{part}
 use Rattle.slot.specs.Layout.{pointer_in, rec_in}

@@ -1,4 +1,4 @@
-use Rattle.std.proofs.Common.{◌≡◌, ℕ, List, ◌++◌, length, take, sym, ap, arith, length-take-le}
+use Rattle.std.proofs.Common.{◌≡◌, ℕ, ◌++◌, length, take, sym, ap, arith, length-take-le}
 use Rattle.model.specs.Records.{le_bytes}
 use Rattle.slot.specs.Layout.{bytes_in}
 use Rattle.slot.proofs.Texts.{length_bytes_in}

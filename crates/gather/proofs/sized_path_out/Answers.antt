@@ -1,4 +1,4 @@
-use Rattle.std.proofs.Common.{◌≡◌, ℕ, ◌+◌, List, ◌++◌, length, sym, ap, arith}
+use Rattle.std.proofs.Common.{◌≡◌, ℕ, ◌+◌, ◌++◌, length, sym, ap, arith}
 use Rattle.model.specs.Records.{le_bytes}
 use Rattle.path.specs.Packs.{path_in}
 use Rattle.path.proofs.Words.{length_path}

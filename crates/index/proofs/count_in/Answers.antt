@@ -1,4 +1,4 @@
-use Rattle.std.proofs.Common.{◌≡◌, ℕ, ◌+◌, ◌-◌, ◌≤◌, List, [], ◌∷◌, length, get_or, drop, sym, refl, ap, ◌∙◌, subst, ⊎_elim, arith, length-drop, drop-drop}
+use Rattle.std.proofs.Common.{◌≡◌, ℕ, ◌+◌, ◌-◌, length, get_or, drop, sym, refl, ap, subst, ⊎_elim, arith, length-drop, drop-drop}
 use Rattle.index.specs.Chains.{Chain}
 use Rattle.index.proofs.Chained.{chain_zero, chain_over, chain_step, drop_head}
 use Rattle.index.proofs.count_in.Goals as goal

@@ -1,4 +1,4 @@
-use Rattle.std.proofs.Common.{◌≡◌, ℕ, ◌+◌, ◌-◌, ◌*◌, ◌<◌, ◌≤◌, Bool, true, false, List, [], ◌∷◌, length, get_or, drop, sym, refl, ap, ◌∙◌, subst, ⊎_elim, zero-add, arith, length-drop, drop-drop}
+use Rattle.std.proofs.Common.{◌≡◌, ℕ, ◌+◌, ◌-◌, ◌*◌, true, false, length, get_or, drop, sym, refl, ap, ◌∙◌, subst, ⊎_elim, zero-add, arith, length-drop, drop-drop}
 use Rattle.std.proofs.lemmas.List.{get_or_past}
 use Rattle.slot.specs.Finds.{position}
 use Rattle.slot.specs.Parts.{part}

@@ -1,6 +1,6 @@
-use Rattle.std.proofs.Common.{◌≡◌, ℕ, ◌+◌, ◌-◌, ◌*◌, ◌<◌, ◌≤◌, Bool, true, false, List, [], ◌∷◌, ◌++◌, length, get_or, take, drop, set, sym, refl, ap, ◌∙◌, subst, arith, length-drop, take_all, drop-drop, rules}
+use Rattle.std.proofs.Common.{◌≡◌, ℕ, ◌+◌, ◌-◌, ◌≤◌, List, [], ◌∷◌, ◌++◌, length, get_or, take, drop, set, sym, refl, ap, ◌∙◌, subst, arith, take_all, drop-drop}
 use Rattle.std.proofs.lemmas.List.{take_more}
-use Rattle.index.specs.Chains.{Chain, link_after, has}
+use Rattle.index.specs.Chains.{Chain, link_after}
 use Rattle.index.proofs.Chained.{chain_over, chain_cut, chain_passed, chain_more, drop_head, link_after_push}
 use Rattle.index.proofs.unlink.Goals as goal
 use Rattle.index.proofs.unlink.Goals.{else-chain-test, then-chain-test+then-link-i, then-link-i-via-then-link-i, then-link-i-via-else-link-i+then-link-eq0, then-link-i-via-else-link-i+else-link-eq0+then-link-n}

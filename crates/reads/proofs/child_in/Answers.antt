@@ -1,4 +1,4 @@
-use Rattle.std.proofs.Common.{◌≡◌, ℕ, eqb, List, get_or, sym, ap, ◌∙◌, ap₂}
+use Rattle.std.proofs.Common.{ℕ, eqb, List, get_or, sym, ap, ◌∙◌, ap₂}
 use Rattle.model.specs.Records.{present}
 use Rattle.path.specs.Packs.{path_in}
 use Rattle.slot.specs.Parts.{part}

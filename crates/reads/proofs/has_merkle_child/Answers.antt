@@ -1,9 +1,8 @@
-use Rattle.std.proofs.Common.{◌≡◌, ℕ, ◌+◌, ◌-◌, ◌*◌, ◌<◌, ◌≤◌, Bool, true, false, not, ◌&&◌, ◌||◌, List, [], ◌∷◌, length, get_or, sym, refl, ap, ◌∙◌, subst, arith}
-use Rattle.model.specs.Records.{Children, children_of, Record, is_data}
+use Rattle.std.proofs.Common.{◌≡◌, ℕ, ◌+◌, ◌*◌, Bool, not, ◌&&◌, ◌||◌, List, get_or, sym, ap, ◌∙◌, subst, arith}
+use Rattle.model.specs.Records.{Children, children_of}
 use Rattle.model.specs.Verifier.{Stored, has_merkle_child, points_at_merkle}
 use Rattle.slot.specs.Parts.{part}
-use Rattle.slot.specs.Layout.{pointer_in, PointerPacks, Slot, rec_in, children_in}
-use Rattle.store.specs.Holding.{slot_at, stored_at, Holds}
+use Rattle.slot.specs.Layout.{pointer_in, PointerPacks, Slot, rec_in}
 use Rattle.slot.proofs.Parted.{part_part}
 use Rattle.reads.proofs.Read.{tag_at, data_is, data_not, node_children}
 use Rattle.reads.proofs.has_merkle_child.Goals as goal

@@ -1,9 +1,8 @@
-use Rattle.std.proofs.Common.{◌≡◌, ℕ, ◌+◌, ◌-◌, ◌*◌, eqb, List, get_or, sym, ap, ◌∙◌, arith}
+use Rattle.std.proofs.Common.{◌≡◌, ℕ, ◌+◌, ◌-◌, ◌*◌, List, get_or, sym, ap, ◌∙◌, arith}
 use Rattle.std.proofs.lemmas.Bool.{eq-eqb, ne_eqb}
 use Rattle.slot.specs.Parts.{part}
 use Rattle.slot.specs.Layout.{number_in}
 use Rattle.slot.proofs.Parted.{get_d_part, part_part}
-use Rattle.store.specs.Holding.{slot_at}
 use Rattle.reads.proofs.known_hash.Goals as goal
 
 -- the mark, as the code reads it

@@ -1,4 +1,4 @@
-use Rattle.std.proofs.Common.{◌≡◌, ℕ, ◌^◌, ◌<◌, ◌≤◌, length, get_or, take, drop, sym, refl, ap, ◌∙◌, subst, arith, length-drop, length-take}
+use Rattle.std.proofs.Common.{◌≡◌, ℕ, length, get_or, sym, ap, ◌∙◌, subst, arith, length-drop, length-take}
 use Rattle.path.specs.Packs.{path_in, Packs}
 use Rattle.model.specs.Records.{same_bytes}
 use Rattle.path.proofs.Words.{length_path}

@@ -1,4 +1,4 @@
-use Rattle.std.proofs.Common.{◌≡◌, ℕ, ◌+◌, ◌-◌, ◌*◌, ◌<◌, ◌≤◌, List, length, get_or, take, drop, sym, refl, ap, ◌∙◌, subst, arith}
+use Rattle.std.proofs.Common.{◌≡◌, ℕ, ◌+◌, ◌-◌, ◌*◌, List, sym, ap, ◌∙◌, subst, arith}
 use Rattle.path.specs.Packs.{path_in}
 use Rattle.slot.specs.Parts.{part}
 use Rattle.slot.specs.Layout.{pointer_in, PointerPacks}

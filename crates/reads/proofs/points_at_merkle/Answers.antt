@@ -1,9 +1,9 @@
-use Rattle.std.proofs.Common.{◌≡◌, ℕ, ◌+◌, ◌-◌, ◌*◌, ◌<◌, ◌≤◌, eqb, List, [], ◌∷◌, length, get_or, take, drop, sym, refl, ap, ◌∙◌, subst, add-zero, arith}
-use Rattle.model.specs.Verifier.{Stored, find}
+use Rattle.std.proofs.Common.{◌≡◌, ℕ, ◌+◌, ◌-◌, ◌*◌, eqb, List, get_or, sym, ap, ◌∙◌, subst, add-zero, arith}
+use Rattle.model.specs.Verifier.{Stored}
 use Rattle.path.specs.Packs.{path_in, Packs}
 use Rattle.slot.specs.Parts.{part}
-use Rattle.slot.specs.Layout.{pointer_in, PointerPacks}
-use Rattle.store.specs.Holding.{slot_at, stored_at, Holds, Found}
+use Rattle.slot.specs.Layout.{PointerPacks}
+use Rattle.store.specs.Holding.{stored_at, Holds, Found}
 use Rattle.slot.proofs.Parted.{part_part, get_d_part}
 use Rattle.reads.proofs.Read.{merkle_none, merkle_away, merkle_found}
 use Rattle.reads.proofs.points_at_merkle.Goals as goal

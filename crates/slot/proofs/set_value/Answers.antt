@@ -1,6 +1,6 @@
 use Rattle.std.proofs.Common.{◌≡◌, ℕ, ◌+◌, ◌-◌, ◌/◌, List, length, set, Some, sym, ap, ◌∙◌, subst, arith, length-set}
 use Rattle.model.specs.Records.{data_record}
-use Rattle.slot.specs.Parts.{part, put}
+use Rattle.slot.specs.Parts.{put}
 use Rattle.slot.specs.Layout.{slot_key}
 use Rattle.slot.specs.Edits.{KeepsPath, Edited}
 use Rattle.slot.proofs.Parted.{length_part}

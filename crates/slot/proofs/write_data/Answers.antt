@@ -1,6 +1,6 @@
-use Rattle.std.proofs.Common.{◌≡◌, sym, ap, ◌∙◌}
+use Rattle.std.proofs.Common.{sym, ap, ◌∙◌}
 use Rattle.std.specs.Option.{option_map}
-use Rattle.model.specs.Records.{Value, data_record}
+use Rattle.model.specs.Records.{data_record}
 use Rattle.slot.proofs.Written.{key_then_value}
 use Rattle.slot.proofs.write_data.Goals as goal
 

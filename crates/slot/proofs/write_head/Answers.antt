@@ -1,4 +1,4 @@
-use Rattle.std.proofs.Common.{◌≡◌, ℕ, Bool, true, false, eqb, List, set, sym, refl, ap, ◌∙◌, subst, arith}
+use Rattle.std.proofs.Common.{◌≡◌, ℕ, eqb, List, set, sym, ap, ◌∙◌, subst, arith}
 use Rattle.slot.specs.Parts.{put}
 use Rattle.slot.specs.Edits.{Headed}
 use Rattle.slot.proofs.Written.{head_written}

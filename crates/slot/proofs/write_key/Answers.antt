@@ -1,6 +1,5 @@
-use Rattle.std.proofs.Common.{◌≡◌, ℕ, ◌+◌, ◌-◌, ◌/◌, List, length, set, None, sym, ap, ◌∙◌, subst, arith, length-set}
-use Rattle.model.specs.Records.{data_record}
-use Rattle.slot.specs.Parts.{part, put}
+use Rattle.std.proofs.Common.{◌≡◌, ℕ, ◌+◌, ◌-◌, ◌/◌, List, length, set, sym, ap, ◌∙◌, subst, arith, length-set}
+use Rattle.slot.specs.Parts.{put}
 use Rattle.slot.specs.Layout.{Slot, stored_in}
 use Rattle.slot.proofs.Parted.{length_part}
 use Rattle.slot.proofs.Written.{key_slot, key_stored}

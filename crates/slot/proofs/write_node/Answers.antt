@@ -1,7 +1,7 @@
-use Rattle.std.proofs.Common.{◌≡◌, List, length, sym, ap, ◌∙◌, subst, arith, length-take}
-use Rattle.slot.specs.Parts.{part, put}
+use Rattle.std.proofs.Common.{◌≡◌, length, sym, ap, ◌∙◌, subst, arith}
+use Rattle.slot.specs.Parts.{put}
 use Rattle.slot.specs.Layout.{pointer_in, PointerPacks}
-use Rattle.slot.specs.Meant.{child_meant, child_words}
+use Rattle.slot.specs.Meant.{child_meant}
 use Rattle.slot.proofs.Parted.{length_part, length_put}
 use Rattle.slot.proofs.Written.{node_written}
 use Rattle.slot.proofs.write_node.Goals as goal

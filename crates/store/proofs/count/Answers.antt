@@ -1,4 +1,4 @@
-use Rattle.std.proofs.Common.{◌≡◌, ℕ, ◌-◌, ◌*◌, ◌≤◌, List, [], length, get_or, take, sym, subst, arith}
+use Rattle.std.proofs.Common.{◌≡◌, ℕ, ◌-◌, ◌*◌, ◌≤◌, [], length, get_or, take, sym, subst, arith}
 use Rattle.index.specs.Chains.{Chain}
 use Rattle.store.specs.Holding.{Held}
 use Rattle.store.proofs.Members.{length_total}

@@ -1,7 +1,7 @@
-use Rattle.std.proofs.Common.{◌≡◌, ℕ, ◌+◌, ◌-◌, ◌*◌, ◌<◌, ◌≤◌, Bool, true, List, [], ◌∷◌, length, get_or, take, drop, sym, refl, ap, ◌∙◌, subst, arith}
+use Rattle.std.proofs.Common.{◌≡◌, ℕ, ◌-◌, ◌*◌, ◌≤◌, List, [], length, get_or, take, sym, ap, ◌∙◌, subst, arith}
 use Rattle.slot.specs.Parts.{part}
 use Rattle.slot.specs.Finds.{position}
-use Rattle.index.specs.Chains.{Chain, says, says_at, has}
+use Rattle.index.specs.Chains.{Chain, says, says_at}
 use Rattle.path.specs.Packs.{Packs, Fit}
 use Rattle.store.specs.Holding.{home, slot_at, Packing}
 use Rattle.slot.proofs.Parted.{part_part}

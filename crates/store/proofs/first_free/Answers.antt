@@ -1,4 +1,4 @@
-use Rattle.std.proofs.Common.{◌≡◌, ◌-◌, ◌*◌, ◌<◌, leb, [], length, get_or, drop, sym, refl, ap, ◌∙◌, ⊎_elim, arith, get_or-take}
+use Rattle.std.proofs.Common.{◌≡◌, ◌-◌, ◌*◌, leb, [], length, get_or, sym, ap, ◌∙◌, ⊎_elim, arith, get_or-take}
 use Rattle.std.proofs.lemmas.Bool.{lt-leb}
 use Rattle.slot.specs.Parts.{part}
 use Rattle.index.proofs.Chained.{chain_zero, chain_over, chain_step}

@@ -1,4 +1,4 @@
-use Rattle.std.proofs.Common.{◌≡◌, ℕ, ◌+◌, ◌-◌, ◌*◌, ◌<◌, ◌≤◌, Bool, true, false, ◌&&◌, List, [], ◌∷◌, length, get_or, take, drop, set, sym, refl, ap, ◌∙◌, subst, arith, length-take, get_or-take}
+use Rattle.std.proofs.Common.{◌≡◌, ℕ, ◌+◌, ◌-◌, ◌*◌, ◌<◌, Bool, true, false, ◌&&◌, List, [], ◌∷◌, length, get_or, take, drop, set, sym, refl, ap, ◌∙◌, subst, arith, length-take, get_or-take}
 use Rattle.path.specs.Packs.{Fit}
 use Rattle.slot.specs.Parts.{part, put}
 use Rattle.slot.proofs.Parted.{part_put, part_after, length_put}
@@ -8,7 +8,7 @@ use Rattle.path.proofs.Same.{same_refl}
 use Rattle.slot.specs.Layout.{stored_in}
 use Rattle.slot.specs.Finds.{position}
 use Rattle.slot.proofs.Finding.{pick_true}
-use Rattle.index.specs.Chains.{Index, Chain, has, says}
+use Rattle.index.specs.Chains.{Index, has, says}
 use Rattle.index.proofs.Chained.{chain_step, chain_unique}
 use Rattle.store.specs.Holding.{slot_home, slot_at, Held, Walked}
 use Rattle.store.proofs.Members.{home_in_slot, slot_bits}

@@ -1,8 +1,8 @@
-use Rattle.std.proofs.Common.{◌≡◌, ℕ, ◌+◌, ◌-◌, ◌*◌, ◌<◌, ◌≤◌, ◌≢◌, List, [], ◌∷◌, length, get_or, take, drop, set, sym, refl, ap, ◌∙◌, subst, arith, length-take, get_or-set_other, get_or-set_same, below_more}
+use Rattle.std.proofs.Common.{◌≡◌, ℕ, ◌+◌, ◌-◌, ◌*◌, ◌≢◌, List, length, take, sym, ap, ◌∙◌, subst, arith, length-take, get_or-set_other, get_or-set_same, below_more}
 use Rattle.slot.specs.Parts.{part, put}
 use Rattle.slot.proofs.Parted.{part_put}
 use Rattle.index.specs.Chains.{Index}
-use Rattle.store.specs.Holding.{free_below, Holds}
+use Rattle.store.specs.Holding.{free_below}
 use Rattle.store.proofs.Opened.{index_none, fresh_below, free_more, held_none_yet}
 use Rattle.store.proofs.open.Goals as goal
 

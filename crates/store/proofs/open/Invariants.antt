@@ -1,4 +1,4 @@
-use Rattle.std.proofs.Common.{◌≡◌, ℕ, ◌*◌, ◌<◌, ◌≤◌, length, get_or}
+use Rattle.std.proofs.Common.{◌≡◌, ℕ, ◌*◌, ◌<◌, get_or}
 use Rattle.slot.specs.Parts.{part}
 use Rattle.index.specs.Chains.{Index}
 use Rattle.store.specs.Holding.{free_below}

@@ -1,4 +1,4 @@
-use Rattle.std.proofs.Common.{◌≡◌, ℕ, ◌≤◌, List, [], ◌∷◌, ◌++◌, length, arith}
+use Rattle.std.proofs.Common.{◌≡◌, ℕ, List, [], ◌∷◌, ◌++◌, length, arith}
 use Rattle.model.specs.Records.{le_bytes, record_bytes}
 use Rattle.slot.specs.Layout.{rec_in}
 use Rattle.gather.proofs.Joined.{wrote_join}

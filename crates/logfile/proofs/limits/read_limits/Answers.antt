@@ -1,4 +1,4 @@
-use Rattle.std.proofs.Common.{sym, ap, ◌∙◌}
+use Rattle.std.proofs.Common.{ap, ◌∙◌}
 use Rattle.logfile.specs.FirstLine.{read_line}
 use Rattle.logfile.proofs.ReadBack.{reads_back}
 use Rattle.logfile.proofs.ReadOnly.{made_text}
