@@ -35,7 +35,7 @@ fn both_ways(rt: HostRuntime) -> Result<(), Fail> {
     let p = path(&bytes)?;
     let mut out = [7u8; 13];
     bits_into(11, &p.bits, &mut out, 1);
-    assert_eq!(rt; &out[1..12], &bytes);
+    assert_eq!(rt; &out[1..12], bytes.as_slice());
     assert_eq!(rt; out[0], 7);
     assert_eq!(rt; out[12], 7);
     Ok(())

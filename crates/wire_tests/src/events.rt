@@ -73,7 +73,7 @@ fn add_merkle(rt: HostRuntime) -> Result<(), Fail> {
     let Event::Logged(0, Entry::AddMerkle { record, above }) = read(&samples::ADD_MERKLE) else {
         return Err(Fail::new("it is an AddMerkle of verifier 0"));
     };
-    assert_eq!(rt; record.name, &[0u8, 1]);
+    assert_eq!(rt; record.name, [0u8, 1].as_slice());
     assert_eq!(rt; record.merkle_bytes, &samples::ADD_MERKLE[14..55]);
     assert_eq!(rt; above.len(), 0);
     let Contents::Children { left, right } = record.contents else {
@@ -87,7 +87,7 @@ fn add_merkle(rt: HostRuntime) -> Result<(), Fail> {
     else {
         return Err(Fail::new("its left child is present"));
     };
-    assert_eq!(rt; path, &[0u8, 1, 0]);
+    assert_eq!(rt; path, [0u8, 1, 0].as_slice());
     assert_eq!(rt; hash[0], 0x0807_0605_0403_0201);
     assert_eq!(rt; hash[3], 0x201f_1e1d_1c1b_1a19);
     assert!(rt; in_blum);
@@ -110,7 +110,7 @@ fn add_blum(rt: HostRuntime) -> Result<(), Fail> {
     else {
         return Err(Fail::new("it is an AddBlum of verifier 2"));
     };
-    assert_eq!(rt; record.name, b"alice");
+    assert_eq!(rt; record.name, b"alice".as_slice());
     assert_eq!(rt; record.merkle_bytes, &samples::ADD_BLUM[17..24]);
     assert_eq!(rt; timestamp.epoch, 3);
     assert_eq!(rt; timestamp.counter, 258);
@@ -119,7 +119,7 @@ fn add_blum(rt: HostRuntime) -> Result<(), Fail> {
     let Contents::Value(Some(value)) = record.contents else {
         return Err(Fail::new("it has a value"));
     };
-    assert_eq!(rt; value, b"100");
+    assert_eq!(rt; value, b"100".as_slice());
     Ok(())
 }
 
@@ -129,8 +129,8 @@ fn evict_merkle(rt: HostRuntime) -> Result<(), Fail> {
     let Event::Logged(0, Entry::EvictMerkle { path, above }) = read(&samples::EVICT_MERKLE) else {
         return Err(Fail::new("it is an EvictMerkle of verifier 0"));
     };
-    assert_eq!(rt; path, &[0u8, 1]);
-    assert_eq!(rt; above, &[0u8]);
+    assert_eq!(rt; path, [0u8, 1].as_slice());
+    assert_eq!(rt; above, [0u8].as_slice());
     Ok(())
 }
 
@@ -140,7 +140,7 @@ fn evict_blum(rt: HostRuntime) -> Result<(), Fail> {
     let Event::Logged(1, Entry::EvictBlum { path, timestamp }) = read(&samples::EVICT_BLUM) else {
         return Err(Fail::new("it is an EvictBlum of verifier 1"));
     };
-    assert_eq!(rt; path, &[1u8, 0, 1]);
+    assert_eq!(rt; path, [1u8, 0, 1].as_slice());
     assert_eq!(rt; timestamp.epoch, 3);
     assert_eq!(rt; timestamp.counter, 7);
     Ok(())
@@ -160,7 +160,7 @@ fn evict_blum_merkle(rt: HostRuntime) -> Result<(), Fail> {
     else {
         return Err(Fail::new("it is an EvictBlumMerkle of verifier 1"));
     };
-    assert_eq!(rt; path, &[1u8, 1]);
+    assert_eq!(rt; path, [1u8, 1].as_slice());
     assert_eq!(rt; above.len(), 0);
     assert_eq!(rt; timestamp.epoch, 4);
     assert_eq!(rt; timestamp.counter, 0);
@@ -201,17 +201,17 @@ fn get_and_set(rt: HostRuntime) -> Result<(), Fail> {
     else {
         return Err(Fail::new("it is a Get of a value"));
     };
-    assert_eq!(rt; key, b"alice");
-    assert_eq!(rt; value, b"100");
+    assert_eq!(rt; key, b"alice".as_slice());
+    assert_eq!(rt; value, b"100".as_slice());
     let Event::Logged(1, Entry::Get { key, value: None }) = read(&samples::GET_NONE) else {
         return Err(Fail::new("it is a Get of no value"));
     };
-    assert_eq!(rt; key, b"bob");
+    assert_eq!(rt; key, b"bob".as_slice());
     let Event::Logged(1, Entry::Set { key, value }) = read(&samples::SET) else {
         return Err(Fail::new("it is a Set"));
     };
-    assert_eq!(rt; key, b"alice");
-    assert_eq!(rt; value, b"90");
+    assert_eq!(rt; key, b"alice".as_slice());
+    assert_eq!(rt; value, b"90".as_slice());
     Ok(())
 }
 

@@ -1,6 +1,5 @@
-use mathlib.Core.Path.{◌≡◌, sym, ap, ◌∙◌}
-use Rattle.model.specs.Monitor.{answer, entry_code}
-use Rattle.wire.specs.Meaning.{entry_of}
+use mathlib.Core.Path.{sym, ap, ◌∙◌}
+use Rattle.model.specs.Monitor.{answer}
 use Rattle.monitor.proofs.Refused.{refuses_malformed, refuses_unsupported}
 use Rattle.monitor.proofs.answer.Goals as goal
 
