@@ -1,5 +1,5 @@
 -- The words that are options.
-use Rattle.std.specs.Prelude.{◌≡◌, ℕ, ◌⊎◌, List, [], ◌∷◌, codes, ◌≢◌, slice_index}
+use Rattle.std.specs.Prelude.{◌≡◌, ℕ, ◌⊎◌, List, codes, ◌≢◌, slice_index}
 use Rattle.options.specs.declared.Flag.{Flag}
 use Rattle.options.specs.declared.Flag.TheVariants.{Plain, End, Key, Quiet, Progress, NoFail, Help, Other}
 

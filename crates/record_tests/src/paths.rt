@@ -22,10 +22,12 @@ fn refused(rt: HostRuntime) {
 fn packed(rt: HostRuntime) -> Result<(), Fail> {
     let p = path(&[1, 0, 1, 1, 0, 0, 0, 0, 1, 1])?;
     assert_eq!(rt; p.len, 10);
-    assert_eq!(rt; p.bits[0], 0xb0c0_0000_0000_0000);
-    assert_eq!(rt; p.bits[1], 0);
+    let bits = p.bits;
+    assert_eq!(rt; bits[0], 0xb0c0_0000_0000_0000);
+    assert_eq!(rt; bits[1], 0);
     let all = path(&[1; 256])?;
-    assert_eq!(rt; all.bits[3], u64::MAX);
+    let bits = all.bits;
+    assert_eq!(rt; bits[3], u64::MAX);
     Ok(())
 }
 
@@ -65,6 +67,7 @@ fn below_and_before(rt: HostRuntime) -> Result<(), Fail> {
 fn of_a_key(rt: HostRuntime) {
     let p = key_path(b"abc");
     assert_eq!(rt; p.len, 256);
-    assert_eq!(rt; p.bits[0], 0xba78_16bf_8f01_cfea);
-    assert_eq!(rt; p.bits[3], 0xb410_ff61_f200_15ad);
+    let bits = p.bits;
+    assert_eq!(rt; bits[0], 0xba78_16bf_8f01_cfea);
+    assert_eq!(rt; bits[3], 0xb410_ff61_f200_15ad);
 }

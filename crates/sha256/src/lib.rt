@@ -100,9 +100,8 @@ pub struct Sha256Digest {
     pub limbs: [u64; 4],
 }
 
-// `digest` for C.
-#[unsafe(no_mangle)]
-pub extern "C" fn sha256_digest(message: &[u8], out: &mut Sha256Digest)
+// `digest` for C; crate `sha256_c` exports it.
+pub fn sha256_digest(message: &[u8], out: &mut Sha256Digest)
     ensures { limbs_bytes out.new.limbs ≡ sha256 message.now }
 {
     out.limbs = digest(message);
