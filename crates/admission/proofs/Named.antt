@@ -1,5 +1,5 @@
 -- The epoch that an entry names.
-use Rattle.std.proofs.Common.{◌≡◌, ℕ, suc, ◌+◌, ◌-◌, ◌^◌, ◌<◌, min, Bool, true, false, ltb, List, sym, refl, ap, ◌∙◌, subst, ⊎_elim, arith, Bor}
+use Rattle.std.proofs.Common.{◌≡◌, ℕ, suc, ◌+◌, ◌-◌, ◌^◌, ◌<◌, min, true, List, sym, refl, ap, ◌∙◌, ⊎_elim, arith, Bor}
 use Rattle.std.proofs.lemmas.Bool.{cases_lt, ltb-true, le-ltb}
 use Rattle.model.specs.Verifier.{Verifier}
 use Rattle.model.specs.Monitor.{epoch_named, fits_32}

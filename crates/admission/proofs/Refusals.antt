@@ -1,9 +1,9 @@
 -- Which refusal it is, by the first test that fails.
-use Rattle.std.proofs.Common.{◌≡◌, ℕ, ◌+◌, ◌-◌, ◌^◌, ◌<◌, ◌≤◌, min, Bool, true, false, ◌&&◌, ltb, leb, length, sym, refl, ap, ◌∙◌, subst, arith}
+use Rattle.std.proofs.Common.{◌≡◌, ℕ, ◌+◌, ◌-◌, ◌^◌, ◌<◌, ◌≤◌, min, Bool, true, false, ◌&&◌, ltb, leb, refl, arith}
 use Rattle.std.proofs.lemmas.Bool.{lt-ltb, le-leb, lt-leb}
 use Rattle.model.specs.Records.{pick}
-use Rattle.model.specs.Verifier.{Verifier, Entry}
-use Rattle.model.specs.Monitor.{Limits, State, logged, verifier_at, entry_code, is_add, good_entry, epoch_named, fits_32, in_range, store_full, too_far_ahead, refusal}
+use Rattle.model.specs.Verifier.{Entry}
+use Rattle.model.specs.Monitor.{Limits, State, logged, verifier_at, entry_code, good_entry, epoch_named, fits_32, in_range, store_full, too_far_ahead, refusal}
 
 and_false : (b : Bool) → (b && false) ≡ false
 and_false true = refl

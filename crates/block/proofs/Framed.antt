@@ -1,11 +1,11 @@
 -- What a write to the store leaves of a block.
-use Rattle.std.proofs.Common.{◌≡◌, ℕ, ◌+◌, ◌-◌, ◌*◌, ◌≤◌, List, length, get_or, sym, refl, ap, ◌∙◌, subst, arith}
-use Rattle.model.specs.Verifier.{Timestamp, Verifier, Stored, with_store}
+use Rattle.std.proofs.Common.{◌≡◌, ℕ, ◌+◌, ◌-◌, ◌*◌, ◌≤◌, List, length, get_or, sym, ap, ◌∙◌, subst, arith}
+use Rattle.model.specs.Verifier.{Verifier, Stored, with_store}
 use Rattle.path.specs.Packs.{path_in, Packs}
 use Rattle.slot.specs.Parts.{part, put}
 use Rattle.slot.proofs.Parted.{length_part, length_put, part_put, part_before, at_before}
 use Rattle.store.specs.Holding.{Holds}
-use Rattle.block.specs.Blocks.{Keeps, block_words, clock_in, last_in, salt_in, store_in}
+use Rattle.block.specs.Blocks.{Keeps, salt_in, store_in}
 
 -- the store's words, as code takes them
 pub store_taken : (n : ℕ) (b : List ℕ) → part 64 (64 + 192 * n - 64) b ≡ store_in n b

@@ -1,6 +1,6 @@
 -- What is gathered, and the ways in which a record is added.
-use Rattle.std.proofs.Common.{◌≡◌, ℕ, zero, suc, ◌+◌, ◌-◌, ◌*◌, ◌<◌, ◌≤◌, Bool, true, false, eqb, leb, List, [], ◌∷◌, ◌++◌, length, take, drop, sym, refl, ap, ◌∙◌, subst, zero-add, arith, length-take, take_all}
-use lib.Seq.{paste, take-paste}
+use Rattle.std.proofs.Common.{◌≡◌, ℕ, zero, suc, ◌+◌, ◌-◌, ◌<◌, Bool, true, false, leb, List, length, take, drop, sym, refl, ap, ◌∙◌, subst, arith, take_all}
+use lib.Seq.{take-paste}
 use Rattle.std.proofs.lemmas.Bool.{leb-true, leb-false}
 use Rattle.model.specs.Records.{Path, Record, Children, Pointer, node, pick, with_child, merkle_hash}
 use Rattle.model.specs.Verifier.{Stored, updated}

@@ -1,7 +1,7 @@
 -- AddMerkle by what the node above knows, each condition as the code's test leaves it.
-use Rattle.std.proofs.Common.{◌≡◌, ℕ, Bool, true, false, not, ◌&&◌, eqb, List, [], ◌∷◌, sym, refl, ap, ◌∙◌, subst}
+use Rattle.std.proofs.Common.{◌≡◌, ℕ, Bool, true, false, not, ◌&&◌, eqb, [], ◌∷◌, refl, ◌∙◌}
 use Rattle.model.specs.Records.{Path, Record, Pointer, absent, present, is_data, is_initial, path_of, children_of, node, with_child, side, merkle_hash, same_bytes, below, child_on, pick}
-use Rattle.model.specs.Verifier.{Stored, Verifier, Step, fails, goes, goes_to, with_record, with_store, updated, find, nonempty, stores, under_node, add_merkle, add_merkle_at, add_merkle_under, verifier_step}
+use Rattle.model.specs.Verifier.{Stored, Verifier, fails, goes, goes_to, with_record, with_store, updated, find, nonempty, stores, add_merkle, add_merkle_at, add_merkle_under, verifier_step}
 use Rattle.conditions.specs.Ways.{pointing}
 use Rattle.conditions.proofs.Tests.{and_false}
 

@@ -1,7 +1,7 @@
 -- An EvictMerkle by its conditions, each as the code's test leaves it.
-use Rattle.std.proofs.Common.{◌≡◌, ℕ, Bool, true, false, not, ◌&&◌, List, [], ◌∷◌, sym, refl, ap, ◌∙◌, subst}
+use Rattle.std.proofs.Common.{◌≡◌, ℕ, Bool, true, false, not, ◌&&◌, List, [], ◌∷◌, refl, ◌∙◌}
 use Rattle.std.proofs.lemmas.Bool.{both_ways}
-use Rattle.model.specs.Records.{Path, Pointer, absent, present, same_bytes, merkle_hash, pick, below, side, is_data, children_of, child_on, node, with_child}
+use Rattle.model.specs.Records.{Path, Pointer, absent, present, merkle_hash, pick, below, side, is_data, children_of, child_on, node, with_child}
 use Rattle.model.specs.Verifier.{Stored, Verifier, Step, fails, goes, find, verifier_step, evict_merkle, evict_merkle_under, evict_merkle_at, has_merkle_child, with_store, without, updated}
 use Rattle.reads.specs.Points.{points}
 use Rattle.conditions.proofs.Tests.{and_false}

@@ -1,7 +1,7 @@
 -- What an EvictMerkle found, where it may be done.
 use Rattle.std.specs.Prelude.{◌≡◌, ℕ, ◌<◌, false, List, [], ◌∷◌, Ok, Err, Result}
 use Rattle.model.specs.Records.{Path, present, is_data, children_of, node, with_child, merkle_hash}
-use Rattle.model.specs.Verifier.{Verifier, fails, goes, find, verifier_step, evict_merkle, with_store, without, updated}
+use Rattle.model.specs.Verifier.{Verifier, fails, goes, verifier_step, evict_merkle, with_store, without, updated}
 use Rattle.slot.specs.Layout.{Slot}
 use Rattle.store.specs.Holding.{slot_at, stored_at, Walked}
 use Rattle.conditions.specs.declared.parts.Edge.{Edge}

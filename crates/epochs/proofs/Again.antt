@@ -1,5 +1,5 @@
 -- A monitor's memory after writes that leave the limits, the secret and the blocks.
-use Rattle.std.proofs.Common.{◌≡◌, ℕ, ◌+◌, ◌<◌, ◌≤◌, Bool, false, List, length, get_or, sym, ap, ◌∙◌, subst, arith}
+use Rattle.std.proofs.Common.{◌≡◌, ℕ, ◌+◌, ◌<◌, ◌≤◌, List, length, get_or, sym, ap, ◌∙◌, subst, arith}
 use Rattle.model.specs.Records.{pick}
 use Rattle.model.specs.Verifier.{Verifier}
 use Rattle.model.specs.Monitor.{Limits, State, verifier_at, sum_at, no_sum, all_done}

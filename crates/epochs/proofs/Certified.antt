@@ -1,19 +1,18 @@
 -- Whether the first epoch that isn't certified is certified now, and what is written then.
-use Rattle.std.proofs.Common.{◌≡◌, ℕ, suc, ◌+◌, ◌-◌, ◌*◌, ◌%◌, ◌<◌, ◌≤◌, Bool, true, false, not, ◌&&◌, eqb, ◌≢◌, List, length, get_or, set, replicate, sym, refl, ap, ◌∙◌, subst, ap₂, ⊎_elim, add-zero, arith, length-set, get_or-set_other, get_or-set_same}
+use Rattle.std.proofs.Common.{◌≡◌, ℕ, suc, ◌+◌, ◌*◌, ◌<◌, ◌≤◌, Bool, true, false, not, eqb, List, length, get_or, set, replicate, sym, refl, ap, ◌∙◌, subst, ap₂, ⊎_elim, add-zero, arith, length-set, get_or-set_other, get_or-set_same}
 use native.Mathlib.Nat.{add-mod_right}
 use lib.ListN.{length-replicate}
 use Rattle.std.proofs.lemmas.Bool.{and_from, and_left, both_ways, cases_lt, not_from_false}
 use Rattle.model.specs.Records.{pick}
-use Rattle.model.specs.Verifier.{Verifier}
-use Rattle.model.specs.Monitor.{Limits, Sum, State, sum_at, no_sum, all_done, sums_agree, sums_differ, certify}
+use Rattle.model.specs.Monitor.{Limits, Sum, State, sum_at, no_sum, all_done, sums_agree}
 use Rattle.slot.specs.Parts.{part, put}
 use Rattle.slot.proofs.Parted.{length_put, part_put, part_part, part_set_after}
-use Rattle.memory.specs.Keeping.{sum_start, sum_in, Kept, Laid}
+use Rattle.memory.specs.Keeping.{sum_start, sum_in, Laid}
 use Rattle.memory.specs.Ranges.{Agrees, Bounded}
 use Rattle.memory.specs.declared.limits.Limits as code
 use Rattle.memory.proofs.Spans.{sum_before}
 use Rattle.memory.proofs.Framed.{kept_from, stopped_laid, head_block, head_sum, sums_block, sums_head, sums_low, sums_other}
-use Rattle.epochs.specs.Settling.{Settled, Settles}
+use Rattle.epochs.specs.Settling.{Settles}
 use Rattle.epochs.proofs.Lists.{same_place}
 use Rattle.epochs.proofs.Waiting.{certify_waits, certify_differs, certify_one}
 use Rattle.epochs.proofs.Again.{laid_again}

@@ -1,5 +1,5 @@
 -- A hash added to a sum of an epoch under way.
-use Rattle.std.proofs.Common.{◌≡◌, ℕ, ◌+◌, ◌-◌, ◌*◌, ◌%◌, ◌<◌, ◌≤◌, Bool, List, [], ◌∷◌, length, get_or, sym, refl, ap, ◌∙◌, subst, ⊎_elim, arith}
+use Rattle.std.proofs.Common.{◌≡◌, ℕ, ◌+◌, ◌*◌, ◌%◌, ◌<◌, ◌≤◌, Bool, List, length, sym, ap, ◌∙◌, subst, ⊎_elim, arith}
 use Rattle.std.proofs.lemmas.Bool.{cases_eq}
 use Rattle.model.specs.Records.{Bytes, pick}
 use Rattle.model.specs.Verifier.{Element}
@@ -7,7 +7,6 @@ use Rattle.model.specs.Monitor.{Limits, Sum, State, sum_at, with_sum, modulus, e
 use Rattle.slot.specs.Parts.{part, put}
 use Rattle.slot.proofs.Parted.{length_put, part_put, part_before, part_after}
 use Rattle.memory.specs.Keeping.{sum_start, sum_in, Kept, Laid}
-use Rattle.memory.specs.Ranges.{Agrees}
 use Rattle.memory.specs.declared.limits.Limits as code
 use Rattle.memory.proofs.Spans.{sum_before}
 use Rattle.memory.proofs.Framed.{laid_from, sums_block, sums_head, sums_low, sums_other}

@@ -1,5 +1,5 @@
 -- Who is done with an epoch, and what is certified then.
-use Rattle.std.proofs.Common.{◌≡◌, ℕ, zero, suc, ◌+◌, ◌<◌, ◌≤◌, Bool, true, false, ◌&&◌, ltb, List, [], ◌∷◌, length, sym, refl, ap, ◌∙◌, ⊎_elim, arith}
+use Rattle.std.proofs.Common.{◌≡◌, ℕ, zero, suc, ◌<◌, ◌≤◌, Bool, true, false, ltb, List, [], ◌∷◌, length, refl, ap, ◌∙◌, ⊎_elim, arith}
 use Rattle.std.proofs.lemmas.Bool.{and_from, and_cases, and_left, and_right, lt-ltb, le-ltb, ltb-false}
 use Rattle.model.specs.Records.{pick}
 use Rattle.model.specs.Verifier.{Verifier}

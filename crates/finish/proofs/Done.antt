@@ -3,19 +3,16 @@ use mathlib.Core.Path.{◌≡◌, refl, sym, ◌∙◌, ap, subst}
 use mathlib.Core.Bool.{Bool, true, false, not, ◌&&◌}
 use mathlib.Core.List.{List, [], ◌∷◌}
 use Prim.Native.Nat.{ℕ, suc, ◌+◌, ◌<◌, ◌≤◌}
-use lib.ListN.{length, get_or}
 use Rattle.model.specs.Records.{Bytes, pick}
 use Rattle.model.specs.Verifier.{Verifier, Element}
-use Rattle.model.specs.Monitor.{Limits, State, Sum, wrong, right, certified, all_done, certify, sums_agree, sums_differ, stop, sum_at, add_elements, evict_elements}
-use Rattle.wire.specs.declared.parts.Answer.{Answer}
+use Rattle.model.specs.Monitor.{Limits, State, Sum, all_done, sums_agree, sums_differ, stop, sum_at, add_elements, evict_elements}
 use Rattle.wire.specs.declared.parts.Answer.TheVariants.{Wrong, Right, Certified}
 use Rattle.memory.specs.Keeping.{Kept, Laid}
 use Rattle.memory.proofs.Framed.{kept_from}
 use Rattle.epochs.proofs.Again.{laid_again}
 use Rattle.epochs.proofs.Waiting.{certify_waits}
 use Rattle.step.specs.declared.effect.Effect.{Effect}
-use Rattle.step.specs.Effects.{Summed}
-use Rattle.finish.specs.Finishing.{UnderWay, Ready, Finished}
+use Rattle.finish.specs.Finishing.{Ready, Finished}
 
 -- the same memory keeps a state that differs in nothing that is kept
 pub laid_same : (l : Limits) (m : List ℕ) (s z : State) → Laid l m s → z.verifiers ≡ s.verifiers → z.sums ≡ s.sums → z.certified ≡ s.certified → z.stopped ≡ s.stopped → Laid l m z

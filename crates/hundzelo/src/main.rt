@@ -11,6 +11,7 @@ use check::check_log;
 use options::{Command, parse};
 use report::{Failed, complain, complain_of_use, reported};
 use std::env;
+use std::process::ExitCode;
 
 const VERSION: &str = "hundzelo 0.1.0";
 
@@ -41,19 +42,27 @@ fn run(rt: &HostRuntime, words: &[&str]) -> Result<(), Failed> {
     }
 }
 
-fn main(rt: HostRuntime) -> Result<(), Failed> {
-    let args = match env::args(&rt) {
+fn run_program(rt: &HostRuntime) -> Result<(), Failed> {
+    let args = match env::args(rt) {
         Ok(args) => args,
-        Err(e) => return Err(complain(&rt, "the arguments", e)),
+        Err(e) => return Err(complain(rt, "the arguments", e)),
     };
     let Ok(args) = args.collect::<Vec<String>>(rt.alloc()) else {
-        return Err(complain(&rt, "the arguments", "no memory"));
+        return Err(complain(rt, "the arguments", "no memory"));
     };
     let mut words = Vec::new(rt.alloc());
     for arg in args.as_slice().iter().skip(1) {
         if words.push(arg.as_str()).is_err() {
-            return Err(complain(&rt, "the arguments", "no memory"));
+            return Err(complain(rt, "the arguments", "no memory"));
         }
     }
-    run(&rt, words.as_slice())
+    run(rt, words.as_slice())
+}
+
+// An `Err` from here would be printed, and what went wrong was said already.
+fn main(rt: HostRuntime) -> ExitCode {
+    match run_program(&rt) {
+        Ok(()) => ExitCode::SUCCESS,
+        Err(_) => ExitCode::FAILURE,
+    }
 }

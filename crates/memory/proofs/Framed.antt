@@ -1,9 +1,9 @@
 -- What a write to a block, to a word of the header or to the sums leaves of a monitor's memory.
-use Rattle.std.proofs.Common.{◌≡◌, ℕ, ◌+◌, ◌-◌, ◌*◌, ◌%◌, ◌<◌, ◌≤◌, Bool, true, false, ◌≢◌, List, length, get_or, set, sym, ap, ◌∙◌, subst, ⊎_elim, arith, length-set, get_or-set_other, get_or-set_same}
+use Rattle.std.proofs.Common.{◌≡◌, ℕ, ◌+◌, ◌*◌, ◌%◌, ◌<◌, ◌≤◌, Bool, true, false, ◌≢◌, List, length, get_or, set, sym, ap, ◌∙◌, subst, ⊎_elim, arith, length-set, get_or-set_other, get_or-set_same}
 use Rattle.std.proofs.lemmas.Bool.{cases_eq, cases_order, both_ways}
 use Rattle.model.specs.Records.{pick}
 use Rattle.model.specs.Verifier.{Verifier}
-use Rattle.model.specs.Monitor.{Limits, Sum, State, verifier_at, with_verifier, sum_at, no_sum, all_done}
+use Rattle.model.specs.Monitor.{Limits, Sum, State, verifier_at, with_verifier, sum_at, all_done}
 use Rattle.model.specs.Program.{words_needed}
 use Rattle.slot.specs.Parts.{part, put}
 use Rattle.slot.proofs.Parted.{length_put, part_put, part_before, part_after, at_before, part_set_after}

@@ -1,7 +1,7 @@
 -- All of a monitor in lent words: 256 of a header, 32 for the sums of each epoch under way, and a block for each verifier.
 -- Words of the header: 0 how many verifiers there are, 1 places, 2 epochs under way; 3 is 1 if the log was wrong; 4 how many epochs are certified; 8 to 11 the secret.
 -- The sums of epoch e are the e % epochs-th, of what was added in four words and then of what was evicted in four.
-use Rattle.std.specs.Prelude.{◌≡◌, ℕ, ◌+◌, ◌*◌, ◌%◌, ◌<◌, ◌≤◌, Bool, true, false, List, length, slice_index_or}
+use Rattle.std.specs.Prelude.{◌≡◌, ℕ, ◌+◌, ◌*◌, ◌%◌, ◌<◌, ◌≤◌, false, List, length, slice_index_or}
 use Rattle.model.specs.Records.{pick}
 use Rattle.model.specs.Monitor.{Limits, Sum, State, verifier_at, sum_at, no_sum, all_done}
 use Rattle.model.specs.Program.{words_needed}

@@ -1,5 +1,5 @@
 -- What is true of every right step: who is done with an epoch, and what is summed.
-use Rattle.std.proofs.Common.{◌≡◌, ℕ, suc, Bool, true, false, eqb, List, [], ◌∷◌, is_ok, is_err, Ok, Err, Option, Result, sym, refl, ap, ◌∙◌, subst, Bor}
+use Rattle.std.proofs.Common.{◌≡◌, ℕ, suc, true, false, eqb, List, [], ◌∷◌, is_ok, is_err, Ok, Err, Option, Result, sym, refl, Bor}
 use Rattle.std.proofs.lemmas.Bool.{both_ways}
 use Rattle.model.specs.Verifier.{Verifier, Entry, Element, Step, fails, goes, verifier_step}
 use Rattle.model.specs.Monitor.{entry_code, epoch_named}

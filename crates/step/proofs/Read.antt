@@ -1,5 +1,5 @@
 -- What was read, in the verifier's words.
-use Rattle.std.proofs.Common.{◌≡◌, ℕ, List, Some, None, Option, sym, refl, ap, ◌∙◌, subst, Bor}
+use Rattle.std.proofs.Common.{◌≡◌, ℕ, List, Some, None, Option, refl, Bor}
 use Rattle.std.specs.Option.{option_map}
 use Rattle.reader.specs.Meaning.{value_of}
 

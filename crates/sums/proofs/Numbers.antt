@@ -1,10 +1,6 @@
 -- Numbers in words, added with what is carried.
-use Rattle.std.proofs.Common.{◌≡◌, ℕ, suc, ◌+◌, ◌*◌, ◌%◌, ◌^◌, ◌<◌, ◌≤◌, true, false, eqb, List, [], ◌∷◌, length, get_or, sym, refl, ap, ◌∙◌, subst, ⊎_elim, arith}
-use Rattle.std.proofs.lemmas.Bool.{ne_eqb, eq-eqb, cases_Bool, both_ways}
-use Rattle.model.specs.Records.{same_bytes}
+use Rattle.std.proofs.Common.{◌≡◌, ℕ, ◌+◌, ◌*◌, ◌%◌, ◌^◌, ◌<◌, List, [], ◌∷◌, length, get_or, arith}
 use Rattle.model.specs.Monitor.{modulus}
-use Rattle.path.specs.Packs.{Fit}
-use Rattle.path.proofs.Same.{same_true, same_refl}
 use Rattle.slot.specs.Layout.{number_in}
 
 -- the number in four words

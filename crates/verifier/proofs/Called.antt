@@ -1,8 +1,8 @@
 -- Get and Set by what is found of the key.
-use Rattle.std.proofs.Common.{◌≡◌, ℕ, Bool, true, false, not, ◌&&◌, List, [], ◌∷◌, get_or, Some, sym, refl, ap, ◌∙◌, subst, ⊎_elim}
+use Rattle.std.proofs.Common.{◌≡◌, ℕ, true, false, List, [], ◌∷◌, get_or, Some, sym, refl, ap, ◌∙◌, ⊎_elim}
 use Rattle.std.proofs.lemmas.Bool.{both_ways, cases_eq}
-use Rattle.model.specs.Records.{Bytes, Value, Record, data_record, node, is_data, key_path, pick}
-use Rattle.model.specs.Verifier.{Verifier, Stored, Step, fails, goes_to, find, has_key, has_value, verifier_step, get, set, get_step, set_step, with_store, updated}
+use Rattle.model.specs.Records.{Bytes, Value, Record, data_record, is_data, key_path, pick}
+use Rattle.model.specs.Verifier.{Verifier, Stored, fails, goes_to, find, has_key, has_value, verifier_step, get, set, get_step, set_step, with_store, updated}
 use Rattle.path.proofs.Same.{same_true}
 use Rattle.slot.specs.Layout.{rec_in, slot_key}
 use Rattle.reads.proofs.Read.{data_stored, data_is}

@@ -1,5 +1,5 @@
 -- A step that fails or goes, as code answers it.
-use Rattle.std.proofs.Common.{◌≡◌, ℕ, Bool, true, false, List, is_ok, is_err, Ok, Err, Result, sym, refl, ap, ◌∙◌, subst}
+use Rattle.std.proofs.Common.{◌≡◌, ℕ, true, false, List, is_ok, is_err, Ok, Err, Result, sym, refl, subst}
 use Rattle.std.proofs.lemmas.Bool.{both_ways}
 use Rattle.model.specs.Records.{Record}
 use Rattle.model.specs.Verifier.{Verifier, Element, Step, fails, goes}

@@ -1,8 +1,8 @@
 -- What code tells of the record that is added.
-use Rattle.std.proofs.Common.{◌≡◌, ℕ, Bool, true, false, not, ◌&&◌, List, is_some, Some, None, Option, sym, refl, ap, ◌∙◌, subst, Bor}
+use Rattle.std.proofs.Common.{◌≡◌, ℕ, Bool, true, false, not, ◌&&◌, List, is_some, Some, None, Option, sym, refl, Bor}
 use Rattle.std.specs.Option.{option_map}
 use Rattle.std.proofs.lemmas.Bool.{both_ways}
-use Rattle.model.specs.Records.{Bytes, Path, Record, Children, Pointer, absent, present, Value, data_record, node, path_of, is_data, children_of, is_initial, is_absent, same_value, key_path, merkle_bytes}
+use Rattle.model.specs.Records.{Bytes, Path, Children, Value, data_record, node, path_of, is_data, children_of, is_initial, is_absent, same_value, key_path, merkle_bytes}
 use Rattle.conditions.specs.declared.parts.Way.{Way}
 use Rattle.conditions.specs.declared.parts.Way.TheVariants.{First, Again, Between}
 use Rattle.conditions.specs.Adds.{Told}

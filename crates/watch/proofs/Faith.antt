@@ -1,12 +1,10 @@
 -- A program that does what the contracts say does what is promised, after any log.
-use Rattle.std.proofs.Common.{◌≡◌, ℕ, zero, suc, ◌^◌, ◌<◌, ◌≤◌, Bool, true, false, ◌&&◌, ltb, List, [], ◌∷◌, length, get_or, sym, refl, ap, ◌∙◌, subst, arith}
+use Rattle.std.proofs.Common.{◌≡◌, ℕ, zero, suc, ◌<◌, true, List, [], ◌∷◌, sym, refl, ap, ◌∙◌, subst, arith}
 use Rattle.std.proofs.lemmas.Bool.{and_parts, lt-ltb}
-use Rattle.model.specs.Monitor as monitor
-use Rattle.model.specs.Monitor.{Limits, Event, State, logged, malformed, refusal, refused, answer, respond, state, place_of, Response}
+use Rattle.model.specs.Monitor.{Limits, Event, State, logged, malformed, refusal, refused, answer, state, place_of, Response}
 use Rattle.model.specs.Order.{all_entries}
-use Rattle.model.specs.Program.{Monitor, memory, words_needed, GoodLimits, Right, RefusalKeeps, EnoughMemory}
+use Rattle.model.specs.Program.{Monitor, memory, GoodLimits, Right, RefusalKeeps, EnoughMemory}
 use Rattle.model.specs.Readable.{all_below, readable, all_readable}
-use Rattle.model.specs.Verifier.{Entry}
 use Rattle.model.specs.Wire.{read, event_bytes, EventsReadBack}
 use Rattle.path.specs.Packs.{Fit}
 use Rattle.wire_laws.proofs.Events.{events_read_back}
@@ -14,8 +12,8 @@ use Rattle.wire.specs.declared.parts.Answer.{Answer}
 use Rattle.wire.specs.declared.parts.Answer.TheVariants.{Refused, Wrong, Right as RightAnswer, Certified}
 use Rattle.wire.specs.Meaning.{answer_of}
 use Rattle.memory.specs.Keeping.{Kept}
-use Rattle.watch.specs.Promise.{IsRefused, Answers}
-use Rattle.watch.specs.Whole.{Takes, ByContract, Faithful}
+use Rattle.watch.specs.Promise.{IsRefused}
+use Rattle.watch.specs.Whole.{ByContract, Faithful}
 use Rattle.watch.proofs.Responses.{refuses}
 
 fit_below : (m : List ℕ) → Fit m → all_below 18446744073709551616 m ≡ true

@@ -1,9 +1,9 @@
 -- One event over memory that keeps a monitor.
-use Rattle.std.proofs.Common.{◌≡◌, ℕ, zero, suc, ◌+◌, ◌-◌, ◌*◌, ◌<◌, ◌≤◌, Bool, true, false, not, ◌&&◌, eqb, ltb, leb, List, [], ◌∷◌, ◌++◌, length, get_or, take, drop, set, sym, refl, ap, ◌∙◌, subst, arith, take-append-drop}
+use Rattle.std.proofs.Common.{◌≡◌, ℕ, zero, suc, ◌+◌, ◌-◌, ◌*◌, ◌<◌, ◌≤◌, Bool, true, false, ◌&&◌, eqb, ltb, leb, List, [], ◌∷◌, ◌++◌, length, take, drop, set, sym, refl, ap, ◌∙◌, subst, arith, take-append-drop}
 use Rattle.std.proofs.lemmas.Bool.{leb-false, ltb-true, and_parts}
-use Rattle.model.specs.Records.{pick, Record}
-use Rattle.model.specs.Verifier.{Verifier, Entry, Element, Step, fails, goes, verifier_step}
-use Rattle.model.specs.Monitor.{Limits, State, Response, Event, logged, malformed, refused, right, wrong, refusal, place_of, answer, after, state, respond, stop, stopping, accepted, verifier_at, with_verifier, all_done, entry_code, is_add, in_range, store_full, too_far_ahead, epoch_named, good_entry, good_record, good_timestamp, fits_32}
+use Rattle.model.specs.Records.{pick}
+use Rattle.model.specs.Verifier.{Verifier, Entry, Element, fails, verifier_step}
+use Rattle.model.specs.Monitor.{Limits, State, Response, Event, logged, malformed, refusal, place_of, after, state, stop, accepted, verifier_at, with_verifier, entry_code, is_add, in_range, store_full, too_far_ahead, epoch_named, good_entry, good_record, good_timestamp, fits_32}
 use Rattle.model.specs.Order.{all_entries, CertifiedIsOne}
 use Rattle.model.specs.Program.{GoodLimits}
 use Rattle.order.proofs.Lists.{All}
@@ -24,7 +24,7 @@ use Rattle.wire.specs.declared.parts.Answer.{Answer}
 use Rattle.wire.specs.declared.parts.Answer.TheVariants.{Refused, Wrong}
 use Rattle.wire.specs.declared.parts.Entry as code-entry
 use Rattle.wire.specs.declared.parts.Entry.TheVariants.{AddMerkle, AddBlum, EvictMerkle, EvictBlum, EvictBlumMerkle, NextEpoch, VerifyEpoch, Get, Set}
-use Rattle.wire.specs.Meaning.{answer_of, entry_of, EntryParts}
+use Rattle.wire.specs.Meaning.{entry_of, EntryParts}
 use Rattle.step.specs.declared.effect.Effect.{Effect}
 use Rattle.step.specs.Effects.{Goes, Timely}
 use Rattle.step.proofs.Quiet.{AllOf, Quiet, Quietly, quietly}

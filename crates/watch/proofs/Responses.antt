@@ -1,9 +1,9 @@
 -- What an event leaves and is answered, by whether it is refused and what its step is.
-use Rattle.std.proofs.Common.{◌≡◌, ℕ, zero, suc, ◌<◌, Bool, true, false, not, ◌&&◌, eqb, ltb, leb, List, [], ◌∷◌, ◌++◌, sym, refl, ap, ◌∙◌, subst, arith}
-use Rattle.std.proofs.lemmas.Bool.{ne_eqb, and_parts}
+use Rattle.std.proofs.Common.{◌≡◌, ℕ, suc, Bool, true, false, eqb, List, refl, ap, ◌∙◌, arith}
+use Rattle.std.proofs.lemmas.Bool.{ne_eqb}
 use Rattle.model.specs.Records.{pick, Record}
-use Rattle.model.specs.Verifier.{Verifier, Entry, Element, Step, fails, goes, verifier_step}
-use Rattle.model.specs.Monitor.{Limits, State, Sum, Event, Response, logged, malformed, refused, right, wrong, certified, refusal, place_of, respond, performed, by_step, stop, stopping, accepted, right_answer, sums_differ, sums_agree, all_done, certify, verifier_at, with_verifier, entry_code, add_elements, evict_elements, in_range}
+use Rattle.model.specs.Verifier.{Verifier, Entry, Element, fails, goes, verifier_step}
+use Rattle.model.specs.Monitor.{Limits, State, Event, Response, logged, refused, right, wrong, certified, refusal, place_of, respond, performed, by_step, stop, stopping, accepted, right_answer, sums_differ, verifier_at, entry_code}
 
 pub picked : {A : Type 0} (b : Bool) (x y : A) → b ≡ true → pick b x y ≡ x
 unfolding pick

@@ -1,7 +1,7 @@
-use Rattle.std.proofs.Common.{◌≡◌, ℕ, ◌+◌, ◌<◌, ◌≤◌, Bool, true, false, ◌&&◌, ltb, leb, length, sym, refl, ap, ◌∙◌, subst, arith}
+use Rattle.std.proofs.Common.{◌≡◌, ℕ, ◌+◌, ◌≤◌, Bool, true, false, ◌&&◌, leb, length, sym, ap, ◌∙◌, arith}
 use Rattle.std.proofs.lemmas.Bool.{lt-ltb, le-ltb}
 use Rattle.model.specs.Verifier.{Verifier, Entry}
-use Rattle.model.specs.Monitor.{Limits, State, verifier_at, entry_code, good_entry, epoch_named, fits_32, store_full, too_far_ahead}
+use Rattle.model.specs.Monitor.{Limits, State, verifier_at, entry_code, epoch_named, fits_32, store_full, too_far_ahead}
 use Rattle.model.specs.Order.{all_entries}
 use Rattle.model.specs.Program.{GoodLimits}
 use Rattle.wire.specs.Meaning.{entry_of}

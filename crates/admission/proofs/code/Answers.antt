@@ -1,4 +1,4 @@
-use Rattle.std.proofs.Common.{◌≡◌, ℕ, sym, ap}
+use Rattle.std.proofs.Common.{ℕ, sym, ap}
 use Rattle.model.specs.Monitor.{entry_code}
 use Rattle.wire.specs.declared.parts.Entry.{Entry}
 use Rattle.wire.specs.Meaning.{entry_of}

@@ -1,4 +1,4 @@
-use Rattle.std.proofs.Common.{◌≡◌, ℕ, suc, sym, ap, ◌∙◌, subst}
+use Rattle.std.proofs.Common.{◌≡◌, suc, sym, ap, ◌∙◌, subst}
 use Rattle.model.specs.Verifier as model
 use Rattle.model.specs.Monitor.{epoch_named}
 use Rattle.wire.specs.declared.parts.Entry.{Entry}

@@ -1,4 +1,4 @@
-use Rattle.std.proofs.Common.{◌≡◌, ℕ, ◌<◌, sym, ap, ◌∙◌, subst, arith}
+use Rattle.std.proofs.Common.{ℕ, ◌<◌, sym, subst}
 use Rattle.changes.proofs.Linked.{length_link, room_found}
 use Rattle.changes.proofs.add_merkle_data.Goals as goal
 

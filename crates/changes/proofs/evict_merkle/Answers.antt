@@ -1,4 +1,4 @@
-use Rattle.std.proofs.Common.{◌≡◌, ℕ, false, List, sym, ap, ◌∙◌, subst}
+use Rattle.std.proofs.Common.{ℕ, false, subst}
 use Rattle.model.specs.Records.{node, with_child, present, children_of}
 use Rattle.model.specs.Verifier.{without, updated}
 use Rattle.path.specs.Packs.{path_in}

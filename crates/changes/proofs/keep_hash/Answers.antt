@@ -1,4 +1,4 @@
-use Rattle.std.proofs.Common.{◌≡◌, ℕ, sym, ap, ◌∙◌, subst}
+use Rattle.std.proofs.Common.{sym, ap, ◌∙◌, subst}
 use Rattle.model.specs.Records.{merkle_hash}
 use Rattle.model.specs.Verifier.{Stored}
 use Rattle.conditions.specs.declared.parts.Way.{Way}

@@ -1,8 +1,5 @@
-use Rattle.std.proofs.Common.{◌≡◌, ℕ, false, List, sym, refl, ap, ◌∙◌, subst}
-use Rattle.model.specs.Records.{Record, node, with_child, present, children_of}
-use Rattle.model.specs.Verifier.{Stored}
-use Rattle.path.specs.Packs.{path_in}
-use Rattle.store.specs.Holding.{stored_at, Holds}
+use Rattle.std.proofs.Common.{sym, subst}
+use Rattle.store.specs.Holding.{Holds}
 use Rattle.changes.proofs.Linked.{linked}
 use Rattle.changes.proofs.link.Goals as goal
 use Rattle.slot.specs.Layout.{number_in}

@@ -1,5 +1,4 @@
-use Rattle.std.proofs.Common.{◌≡◌, sym, ap, ◌∙◌}
-use Rattle.model.specs.Records.{Children}
+use Rattle.std.proofs.Common.{sym, ap, ◌∙◌}
 use Rattle.conditions.specs.declared.parts.Way.{Way}
 use Rattle.slot.specs.Meant.{child_meant}
 use Rattle.path.specs.Packs.{path_in}

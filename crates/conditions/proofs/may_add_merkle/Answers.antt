@@ -1,10 +1,9 @@
-use Rattle.std.proofs.Common.{◌≡◌, ℕ, Bool, true, false, not, [], ◌∷◌, sym, refl, ap, ◌∙◌, subst}
+use Rattle.std.proofs.Common.{sym, ap, ◌∙◌}
 use Rattle.std.proofs.lemmas.Bool.{not-true}
-use Rattle.model.specs.Records.{Path, Record, Pointer, path_of, below, side, child_on, children_of}
-use Rattle.model.specs.Verifier.{Verifier, find, add_merkle_at}
+use Rattle.model.specs.Records.{Path, Record, below, side}
+use Rattle.model.specs.Verifier.{find, add_merkle_at}
 use Rattle.path.specs.Packs.{path_in}
 use Rattle.store.specs.Holding.{stored_at}
-use Rattle.conditions.specs.Adds.{Coming}
 use Rattle.conditions.specs.Ways.{added_by}
 use Rattle.conditions.proofs.Added.{no_above, above_is_data, not_under, stored_already, by_pointer}
 use Rattle.conditions.proofs.may_add_merkle.Goals as goal

@@ -1,4 +1,4 @@
-use Rattle.std.proofs.Common.{◌≡◌, ℕ, Bool, true, false, not, sym, refl, ap, ◌∙◌}
+use Rattle.std.proofs.Common.{sym}
 use Rattle.std.proofs.lemmas.Bool.{not-true}
 use Rattle.conditions.proofs.Evicted.{no_record, no_above, not_below, not_node, child_stored, pointer_differs, evicts}
 use Rattle.conditions.proofs.may_evict_merkle.Goals as goal

@@ -1,11 +1,10 @@
-use Rattle.std.proofs.Common.{◌≡◌, ℕ, Bool, true, false, not, eqb, sym, refl, ap, ◌∙◌}
+use Rattle.std.proofs.Common.{◌≡◌, ℕ, Bool, true, false, eqb, sym, ap, ◌∙◌}
 use Rattle.std.proofs.lemmas.Bool.{not-true}
-use Rattle.model.specs.Records.{Path, Record, Pointer, Bytes, same_bytes, below, path_of, merkle_bytes, merkle_hash, hash_of}
+use Rattle.model.specs.Records.{Path, Record, Bytes, same_bytes, below, path_of, merkle_bytes, merkle_hash, hash_of}
 use Rattle.slot.specs.Meant.{child_meant}
 use Rattle.conditions.proofs.Added.{first_not, first, other_hash, by_blum, again, not_initial, not_node, not_below, between}
 use Rattle.conditions.proofs.way_of.Goals as goal
 use Rattle.slot.proofs.Numbers.{limbs_in}
-use Rattle.slot.specs.Layout.{number_in}
 
 -- what is said of a path, of the record that has it
 of_record : (x : Record) (f : Path → Bool) (p : Path) (b : Bool) → path_of x ≡ p → b ≡ f p → f (path_of x) ≡ b

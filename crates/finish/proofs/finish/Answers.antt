@@ -1,11 +1,7 @@
-use mathlib.Core.Path.{◌≡◌, refl, sym, ◌∙◌, ap, subst}
+use mathlib.Core.Path.{refl, sym, subst}
 use mathlib.Core.Bool.{Bool, true, false}
-use mathlib.Core.List.{List}
-use Rattle.model.specs.Monitor.{Limits, State, stop}
-use Rattle.wire.specs.declared.parts.Answer.{Answer}
+use Rattle.model.specs.Monitor.{stop}
 use Rattle.wire.specs.declared.parts.Answer.TheVariants.{Wrong, Right, Certified}
-use Rattle.memory.specs.Keeping.{Laid}
-use Rattle.step.specs.declared.effect.Effect.{Effect}
 use Rattle.finish.specs.Finishing.{Ready, Finished}
 use Rattle.finish.proofs.Done.{between, finish_right, finish_certified, finish_wrong}
 use Rattle.finish.proofs.finish.Goals as goal

@@ -1,5 +1,4 @@
-use Rattle.std.proofs.Common.{◌≡◌, ℕ, ◌<◌, Bool, true, length, sym, refl, ap, ◌∙◌, subst}
-use Rattle.model.specs.Records as records
+use Rattle.std.proofs.Common.{◌≡◌, sym, refl, ap, ◌∙◌, subst}
 use Rattle.model.specs.Verifier as verifier
 use Rattle.model.specs.Monitor.{entry_code, is_add}
 use Rattle.reader.specs.Meaning.{record_of}

@@ -1,15 +1,13 @@
-use Rattle.std.proofs.Common.{◌≡◌, ℕ, true, false, List, ◌++◌, Ok, Err, Result, sym, refl, ap, ◌∙◌, subst}
+use Rattle.std.proofs.Common.{ℕ, true, List, ◌++◌, Ok, Err, sym, refl, ap, ◌∙◌, subst}
 use Rattle.std.proofs.lemmas.Bool.{both_ways}
 use Rattle.model.specs.Records.{hash_of}
 use Rattle.model.specs.Verifier as rules
 use Rattle.model.specs.Monitor.{entry_code, is_add}
 use Rattle.path.specs.Times.{timestamp_of}
 use Rattle.reader.specs.Meaning.{record_of}
-use Rattle.wire.specs.declared.parts.Entry.{Entry}
 use Rattle.wire.specs.Meaning.{entry_of, EntryParts}
-use Rattle.conditions.specs.declared.parts.Failure.{Failure}
 use Rattle.step.specs.Effects.{Stepped, Goes, Timely}
-use Rattle.step.specs.declared.effect.Effect.TheVariants.{Nothing, Added}
+use Rattle.step.specs.declared.effect.Effect.TheVariants.{Added}
 use Rattle.step.proofs.Quiet.{err_fails, err_stepped, quiet_done, blum_done, sums_none_of}
 use Rattle.step.proofs.step.Goals as goal
 use Rattle.slot.specs.Layout.{bytes_in}

@@ -1,4 +1,4 @@
-use Rattle.std.proofs.Common.{refl, arith}
+use Rattle.std.proofs.Common.{arith}
 use Rattle.sums.proofs.Messages.{then_others}
 use Rattle.sums.proofs.message_out.Goals as goal
 use Rattle.slot.specs.Layout.{bytes_in}

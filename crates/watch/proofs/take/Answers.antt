@@ -1,4 +1,4 @@
-use Rattle.std.proofs.Common.{◌≡◌, sym, refl, ap, ◌∙◌, subst}
+use Rattle.std.proofs.Common.{refl, subst}
 use Rattle.model.specs.Monitor.{Event, malformed, logged, state}
 use Rattle.wire.specs.declared.parts.Answer.TheVariants.{Refused}
 use Rattle.wire.specs.Meaning.{entry_of}

@@ -1,4 +1,4 @@
-use Rattle.std.proofs.Common.{◌≡◌, sym, refl, ap, ◌∙◌, subst}
+use Rattle.std.proofs.Common.{◌≡◌, sym, ap, ◌∙◌, subst}
 use Rattle.model.specs.Records as records
 use Rattle.model.specs.Verifier.{verifier_step, add_blum}
 use Rattle.path.specs.Times.{timestamp_of}

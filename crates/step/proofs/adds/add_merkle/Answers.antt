@@ -1,7 +1,6 @@
-use Rattle.std.proofs.Common.{◌≡◌, sym, refl, ap, ◌∙◌, subst}
+use Rattle.std.proofs.Common.{◌≡◌, sym, ap, ◌∙◌, subst}
 use Rattle.model.specs.Records as records
 use Rattle.model.specs.Verifier.{verifier_step, add_merkle}
-use Rattle.reader.specs.declared.Contents.{Contents}
 use Rattle.reader.specs.Meaning.{contents_of}
 use Rattle.range.specs.Packing.{bits_of}
 use Rattle.block.specs.Blocks.{Taken}

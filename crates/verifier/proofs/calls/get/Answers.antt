@@ -1,4 +1,3 @@
-use Rattle.std.proofs.Common.{◌≡◌, sym, refl, ap, ◌∙◌, subst}
 use Rattle.verifier.proofs.Stepped.{failed, right}
 use Rattle.verifier.proofs.Called.{get_fails, other_value, gets}
 use Rattle.conditions.specs.declared.parts.Failure.TheVariants.{NotStored, ValueDiffers}

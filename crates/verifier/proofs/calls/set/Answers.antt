@@ -1,4 +1,4 @@
-use Rattle.std.proofs.Common.{◌≡◌, true, false, List, Some, sym, refl, ap, ◌∙◌, subst}
+use Rattle.std.proofs.Common.{true, Some, refl, subst}
 use Rattle.std.proofs.lemmas.Bool.{both_ways}
 use Rattle.model.specs.Records.{Bytes, data_record}
 use Rattle.model.specs.Verifier.{updated}

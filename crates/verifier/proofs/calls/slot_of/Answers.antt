@@ -1,6 +1,6 @@
-use Rattle.std.proofs.Common.{◌≡◌, false, List, [], ◌∷◌, sym, refl, ap, ◌∙◌, subst}
-use Rattle.model.specs.Records.{Path, Bytes, key_path}
-use Rattle.model.specs.Verifier.{Stored, find, has_key}
+use Rattle.std.proofs.Common.{List, sym, ap, ◌∙◌, subst}
+use Rattle.model.specs.Records.{Path}
+use Rattle.model.specs.Verifier.{Stored, find}
 use Rattle.block.proofs.Framed.{taken_holds}
 use Rattle.verifier.specs.Keys.{OtherKey}
 use Rattle.verifier.proofs.calls.slot_of.Goals as goal

@@ -1,11 +1,11 @@
-use Rattle.std.proofs.Common.{◌≡◌, true, false, List, ◌∷◌, sym, refl, ap, ◌∙◌, subst}
+use Rattle.std.proofs.Common.{true, List, ◌∷◌, refl, subst}
 use Rattle.std.proofs.lemmas.Bool.{both_ways}
 use Rattle.std.specs.Option.{option_map}
 use Rattle.model.specs.Records.{Path, Record, data_record, path_of}
 use Rattle.model.specs.Verifier.{Stored}
 use Rattle.path.specs.Packs.{path_in}
 use Rattle.store.specs.Holding.{stored_at, Holds}
-use Rattle.conditions.specs.Ways.{after_link, pointing, record_after}
+use Rattle.conditions.specs.Ways.{after_link, pointing}
 use Rattle.block.specs.Blocks.{salt_in}
 use Rattle.block.proofs.Framed.{taken_holds, store_written}
 use Rattle.verifier.specs.Keys.{lent_store}

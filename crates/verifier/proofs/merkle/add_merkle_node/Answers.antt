@@ -1,6 +1,6 @@
-use Rattle.std.proofs.Common.{◌≡◌, true, false, List, ◌∷◌, sym, refl, ap, ◌∙◌, subst}
+use Rattle.std.proofs.Common.{true, List, ◌∷◌, refl, subst}
 use Rattle.std.proofs.lemmas.Bool.{both_ways}
-use Rattle.model.specs.Records.{Path, Record, Children, node, path_of}
+use Rattle.model.specs.Records.{Record, Children, node, path_of}
 use Rattle.model.specs.Verifier.{Stored}
 use Rattle.path.specs.Packs.{path_in}
 use Rattle.slot.specs.Meant.{child_meant}

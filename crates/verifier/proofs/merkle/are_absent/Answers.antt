@@ -1,8 +1,7 @@
-use Rattle.std.proofs.Common.{◌≡◌, Bool, false, ◌&&◌, sym, refl, ap, ◌∙◌}
+use Rattle.std.proofs.Common.{◌&&◌, sym, ap, ◌∙◌}
 use Rattle.model.specs.Records.{is_absent}
 use Rattle.slot.specs.Meant.{child_meant}
 use Rattle.slot.specs.declared.child.Child.{Child}
-use Rattle.slot.specs.declared.child.Child.TheVariants.{Absent, Present}
 use Rattle.verifier.proofs.merkle.are_absent.Goals as goal
 
 pub returns-in_default : goal.returns-in_default

@@ -1,6 +1,6 @@
-use Rattle.std.proofs.Common.{◌≡◌, true, false, sym, refl, ap, ◌∙◌, subst}
+use Rattle.std.proofs.Common.{true, refl}
 use Rattle.std.proofs.lemmas.Bool.{both_ways}
-use Rattle.block.proofs.Framed.{store_taken, taken_holds, store_written}
+use Rattle.block.proofs.Framed.{taken_holds, store_written}
 use Rattle.verifier.proofs.Stepped.{wrong, right}
 use Rattle.verifier.proofs.merkle.evict_merkle.Goals as goal
 

@@ -1,7 +1,7 @@
-use Rattle.std.proofs.Common.{◌≡◌, ℕ, ◌+◌, ◌-◌, ◌*◌, ◌<◌, Bool, true, false, eqb, ltb, List, [], length, sym, refl, ap, ◌∙◌, subst, arith}
+use Rattle.std.proofs.Common.{◌≡◌, ℕ, ◌<◌, true, false, eqb, List, [], length, sym, refl, ap, ◌∙◌, subst, arith}
 use Rattle.std.proofs.lemmas.Bool.{le-ltb}
 use Rattle.model.specs.Verifier.{Verifier, verifier_step}
-use Rattle.model.specs.Monitor.{Limits, State, state, verifier_at, is_add, entry_code}
+use Rattle.model.specs.Monitor.{state, verifier_at, is_add}
 use Rattle.order.proofs.Sums.{settled}
 use Rattle.step.specs.Effects.{Goes}
 use Rattle.wire.specs.Meaning.{entry_of}

@@ -1,4 +1,4 @@
-use Rattle.std.proofs.Common.{◌≡◌, ℕ, Bool, true, false, not, eqb, get_or, sym, refl, ap, ◌∙◌}
+use Rattle.std.proofs.Common.{◌≡◌, ℕ, Bool, true, false, not, eqb, get_or, sym, refl}
 use Rattle.model.specs.Records.{pick}
 use Rattle.watch.proofs.events.standing.Goals as goal
 
