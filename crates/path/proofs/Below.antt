@@ -2,9 +2,9 @@
 use Rattle.std.proofs.Common.{◌≡◌, ℕ, ◌-◌, ◌*◌, ◌/◌, ◌%◌, ◌^◌, ◌<◌, ◌≤◌, min, Bool, true, false, eqb, List, length, get_or, take, sym, refl, ap, ◌∙◌, arith, length-take}
 use Rattle.std.proofs.lemmas.List.{take-take}
 use Rattle.std.proofs.lemmas.Bool.{false≢true, eqb-true, eq-eqb}
-use Rattle.model.specs.Records.{below}
+use Rattle.model.specs.Records.{below, same_bytes}
 use Rattle.path.specs.Packs.{word_bits, path_in, Fit}
-use Rattle.path.proofs.Same.{below_begins, begins_below, below_short}
+use Rattle.path.proofs.Same.{below_begins, begins_below, below_short, same_refl, front_same}
 use Rattle.path.proofs.Words.{length_word_bits, length_path, Alike, alike_begin, begin_alike}
 
 module _ (n m : ℕ) (ws vs : List ℕ) (l : length ws ≡ length vs) (h : n ≤ 64 * length ws) where
@@ -32,11 +32,13 @@ module _ (n m : ℕ) (ws vs : List ℕ) (l : length ws ≡ length vs) (h : n ≤
     below_alike f g e = begin_alike m ws vs l (omega arith) f g (sym cut ∙ below_begins (path_in n ws) (path_in m vs) e)
 
     -- a word that differs
-    pub below_not : (i : ℕ) → Fit ws → Fit vs → i < m / 64 → (get_or ws i 0 ≡ get_or vs i 0 → ⊥) → false ≡ below (path_in n ws) (path_in m vs)
-    below_not i f g j d = go (below (path_in n ws) (path_in m vs)) refl
+    pub below_not : Fit ws → Fit vs → same_bytes (take (m / 64) ws) (take (m / 64) vs) ≡ false → false ≡ below (path_in n ws) (path_in m vs)
+    below_not f g d = go (below (path_in n ws) (path_in m vs)) refl
       where
         go : (b : Bool) → below (path_in n ws) (path_in m vs) ≡ b → false ≡ b
-        go true e = absurd (d ((below_alike f g e).0 i j))
+        go true e =
+            let t = front_same (m / 64) ws vs l (omega arith) (below_alike f g e).0 in
+            absurd (false≢true (sym d ∙ ap (λ (x : List ℕ). same_bytes x (take (m / 64) vs)) t ∙ same_refl (take (m / 64) vs)))
         go false e = refl
 
     -- whole words alike: the last decides

@@ -1,11 +1,16 @@
 -- The order of packed paths is that of their words as numbers, and then of their lengths.
-use Rattle.std.proofs.Common.{◌≡◌, ℕ, zero, suc, ◌+◌, ◌-◌, ◌*◌, ◌/◌, ◌%◌, ◌^◌, ◌<◌, ◌≤◌, Bool, true, false, ◌&&◌, ◌||◌, eqb, ltb, ◌⊎◌, List, [], ◌∷◌, ◌++◌, length, get_or, take, replicate, sym, refl, ap, ◌∙◌, subst, ap₂, inl, inr, append_assoc, pow-suc, arith}
-use Rattle.std.proofs.lemmas.List.{take_at, take-append-drop, length-append, length-replicate, ext_get_or}
+use Rattle.std.proofs.Common.{◌≡◌, ℕ, zero, suc, ◌+◌, ◌-◌, ◌*◌, ◌/◌, ◌%◌, ◌^◌, ◌<◌, ◌≤◌, Bool, true, false, ◌&&◌, ◌||◌, eqb, ltb, ◌⊎◌, List, [], ◌∷◌, ◌++◌, length, take, replicate, sym, refl, ap, ◌∙◌, subst, ap₂, inl, inr, append_assoc, pow-suc, arith}
+use Rattle.std.proofs.lemmas.List.{take-append-drop, length-append, length-replicate, ext_get_or}
 use Rattle.std.proofs.lemmas.Bool.{eq-eqb, ne_eqb, lt-ltb, le-ltb, cases_lt}
+use Rattle.std.specs.Ordering.{nat_cmp, is_lt, is_some_and, partial_ordering_then}
+use Rattle.std.specs.declared.cmp.Ordering.{Ordering}
+use Rattle.std.specs.declared.cmp.Ordering.TheVariants.{Less, Equal, Greater}
+use Rattle.std.specs.Cmp.Lexicographic.{slice_partial_cmp}
+use Rattle.std.specs.Prelude.{Some, Option, cond}
 use Rattle.model.specs.Records.{same_bytes, less_bytes, bits}
 use Rattle.path.specs.Packs.{word_bits, path_in, Packs, Fit}
 use Rattle.path.proofs.Same.{same_refl, same_true, same_is}
-use Rattle.path.proofs.Words.{length_bits, bits_same, length_path, begin_alike}
+use Rattle.path.proofs.Words.{length_path, begin_alike}
 
 -- ---- lists of numbers
 
@@ -134,36 +139,51 @@ less_not (suc n) a b u v h k =
         let e : a / 2 ≡ b / 2 = omega arith in
         ap (λ (x : ℕ). less_bytes (bits n x ++ (a % 2 ∷ u)) (bits n (b / 2) ++ (b % 2 ∷ v))) e ∙ (less_same (bits n (b / 2)) (a % 2 ∷ u) (b % 2 ∷ v) ∙ not_head (a % 2) (b % 2) u v (omega arith))
 
--- words that differ first at i decide
-pub less_words : (ws vs : List ℕ) (i : ℕ) → Fit ws → Fit vs → i < length ws → i < length vs → ((k : ℕ) → k < i → get_or ws k 0 ≡ get_or vs k 0) → (get_or ws i 0 ≡ get_or vs i 0 → ⊥) →
-    (less_bytes (word_bits ws) (word_bits vs) ≡ ltb (get_or ws i 0) (get_or vs i 0)) × (same_bytes (word_bits ws) (word_bits vs) ≡ false)
-unfolding word_bits
-less_words [] vs i f g h k e n = absurd (omega arith)
-less_words (w ∷ ws) [] i f g h k e n = absurd (omega arith)
-less_words (w ∷ ws) (v ∷ vs) zero f g h k e n = (go (cases_lt w v), same_length')
+is_lt-nat_cmp : (n m : ℕ) → is_lt (nat_cmp n m) ≡ ltb n m
+is_lt-nat_cmp n m = go (ltb n m) (eqb n m)
   where
-    go : (w < v) ⊎ (v ≤ w) → less_bytes (bits 64 w ++ word_bits ws) (bits 64 v ++ word_bits vs) ≡ ltb w v
-    go (inl i) = less_bits 64 w v (word_bits ws) (word_bits vs) i (g 0) ∙ sym (lt-ltb w v i)
-    go (inr i) = less_not 64 w v (word_bits ws) (word_bits vs) (let m = n in order w v i m) (f 0) ∙ sym (le-ltb w v i)
-      where
-        order : (a b : ℕ) → b ≤ a → (a ≡ b → ⊥) → b < a
-        order a b l m = elim (cases_lt b a) [ inl x ↦ x | inr y ↦ absurd (m (omega arith)) ]
+    go : (l e : Bool) → is_lt (cond l Less (cond e Equal Greater)) ≡ l
+    go true e = refl
+    go false true = refl
+    go false false = refl
 
-    same_length' : same_bytes (bits 64 w ++ word_bits ws) (bits 64 v ++ word_bits vs) ≡ false
-    same_length' = by (same_bytes (bits 64 w ++ word_bits ws) (bits 64 v ++ word_bits vs)) refl
-      where
-        by : (b : Bool) → same_bytes (bits 64 w ++ word_bits ws) (bits 64 v ++ word_bits vs) ≡ b → b ≡ false
-        by true t =
-            let s = same_true (bits 64 w ++ word_bits ws) (bits 64 v ++ word_bits vs) t in
-            let hd : bits 64 w ≡ bits 64 v = sym (take_at (bits 64 w) (word_bits ws) 64 (length_bits 64 w)) ∙ (ap (take 64) s ∙ take_at (bits 64 v) (word_bits vs) 64 (length_bits 64 v)) in
-            absurd (n (bits_same 64 w v (f 0) (g 0) hd))
-        by false t = refl
-less_words (w ∷ ws) (v ∷ vs) (suc i) f g h k e n =
-    let b : w ≡ v = e 0 (omega arith) in
-    let ih = less_words ws vs i (λ j. f (suc j)) (λ j. g (suc j)) (omega arith) (omega arith) (λ j l. e (suc j) (omega arith)) n in (
-      ap (λ (x : ℕ). less_bytes (bits 64 x ++ word_bits ws) (bits 64 v ++ word_bits vs)) b ∙ (less_same (bits 64 v) (word_bits ws) (word_bits vs) ∙ ih.0),
-      ap (λ (x : ℕ). same_bytes (bits 64 x ++ word_bits ws) (bits 64 v ++ word_bits vs)) b ∙ (same_same (bits 64 v) (word_bits ws) (word_bits vs) ∙ ih.1),
-    )
+-- the library's order, on words and then on lengths
+pub then_less : (ws vs : List ℕ) (n m : ℕ) (r : Bool) → r ≡ is_some_and is_lt (partial_ordering_then (slice_partial_cmp (λ x y. Some (nat_cmp x y)) ws vs) (Some (nat_cmp n m))) →
+    r ≡ (less_bytes ws vs || (same_bytes ws vs && ltb n m))
+unfolding less_bytes same_bytes
+then_less [] [] n m r h = h ∙ is_lt-nat_cmp n m
+then_less [] (v ∷ vs) n m r h = h
+then_less (w ∷ ws) [] n m r h = h
+then_less (w ∷ ws) (v ∷ vs) n m r h = go (ltb w v) (eqb w v) (then_less ws vs n m r) h
+  where
+    rest : Option Ordering
+    rest = slice_partial_cmp (λ x y. Some (nat_cmp x y)) ws vs
+
+    go : (l e : Bool) → (r ≡ is_some_and is_lt (partial_ordering_then rest (Some (nat_cmp n m))) → r ≡ (less_bytes ws vs || (same_bytes ws vs && ltb n m))) →
+        r ≡ is_some_and is_lt (partial_ordering_then (partial_ordering_then (Some (cond l Less (cond e Equal Greater))) rest) (Some (nat_cmp n m))) →
+        r ≡ ((l || (e && less_bytes ws vs)) || ((e && same_bytes ws vs) && ltb n m))
+    go true e ih k = k
+    go false true ih k = ih k
+    go false false ih k = k
+
+-- the first word that differs decides
+less_word_bits : (ws vs : List ℕ) → length ws ≡ length vs → Fit ws → Fit vs → less_bytes (word_bits ws) (word_bits vs) ≡ less_bytes ws vs
+unfolding word_bits less_bytes
+less_word_bits [] [] l f g = refl
+less_word_bits [] (v ∷ vs) l f g = absurd (omega arith)
+less_word_bits (w ∷ ws) [] l f g = absurd (omega arith)
+less_word_bits (w ∷ ws) (v ∷ vs) l f g = elim (cases_lt w v) [ inl i ↦ first i | inr i ↦ elim (cases_lt v w) [ inl j ↦ last j | inr j ↦ rest (less_word_bits ws vs (omega arith) (λ i. f (suc i)) (λ i. g (suc i))) (omega arith) ] ]
+  where
+    first : w < v → less_bytes (bits 64 w ++ word_bits ws) (bits 64 v ++ word_bits vs) ≡ (ltb w v || (eqb w v && less_bytes ws vs))
+    first i = less_bits 64 w v (word_bits ws) (word_bits vs) i (g 0) ∙ sym (rw (lt-ltb w v i) refl)
+
+    last : v < w → less_bytes (bits 64 w ++ word_bits ws) (bits 64 v ++ word_bits vs) ≡ (ltb w v || (eqb w v && less_bytes ws vs))
+    last i = less_not 64 w v (word_bits ws) (word_bits vs) i (f 0) ∙ sym (rw (le-ltb w v (omega arith), ne_eqb w v (λ e. omega arith)) refl)
+
+    rest : less_bytes (word_bits ws) (word_bits vs) ≡ less_bytes ws vs → w ≡ v → less_bytes (bits 64 w ++ word_bits ws) (bits 64 v ++ word_bits vs) ≡ (ltb w v || (eqb w v && less_bytes ws vs))
+    rest ih e =
+        ap (λ (x : ℕ). less_bytes (bits 64 x ++ word_bits ws) (bits 64 v ++ word_bits vs)) e ∙ less_same (bits 64 v) (word_bits ws) (word_bits vs)
+        ∙ ih ∙ sym (rw (le-ltb w v (omega arith), eq-eqb w v e) refl)
 
 -- a path and the zeros past it are its words
 whole : (n : ℕ) (ws : List ℕ) → Packs n ws → path_in n ws ++ replicate (64 * length ws - n) 0 ≡ word_bits ws
@@ -180,21 +200,6 @@ less_path n m ws vs l p q =
     ∙ (ap₂ (λ x y. less_bytes x y || (same_bytes x y && ltb (length (path_in n ws)) (length (path_in m vs)))) (whole n ws p) (whole m vs q)
     ∙ ap₂ (λ x y. less_bytes (word_bits ws) (word_bits vs) || (same_bytes (word_bits ws) (word_bits vs) && ltb x y)) a b)
 
--- the two ends of a loop over words
-pub less_at : (n m : ℕ) (ws vs : List ℕ) (i : ℕ) → length ws ≡ length vs → Packs n ws → Packs m vs → Fit ws → Fit vs → i < length ws → ((k : ℕ) → k < i → get_or ws k 0 ≡ get_or vs k 0) →
-    (get_or ws i 0 ≡ get_or vs i 0 → ⊥) → ltb (get_or ws i 0) (get_or vs i 0) ≡ less_bytes (path_in n ws) (path_in m vs)
-less_at n m ws vs i l p q f g h e d =
-    let r = less_words ws vs i f g h (omega arith) e d in
-    sym (less_path n m ws vs l p q ∙ (ap₂ (λ x y. x || (y && ltb n m)) r.0 r.1 ∙ or_no (ltb (get_or ws i 0) (get_or vs i 0))))
-  where
-    or_no : (x : Bool) → (x || false) ≡ x
-    or_no true = refl
-    or_no false = refl
-
-pub less_end : (n m : ℕ) (ws vs : List ℕ) → length ws ≡ length vs → Packs n ws → Packs m vs → ws ≡ vs → ltb n m ≡ less_bytes (path_in n ws) (path_in m vs)
-less_end n m ws vs l p q e =
-    sym (less_path n m ws vs l p q ∙ ap₂ (λ x y. x || (y && ltb n m)) (ap (λ z. less_bytes (word_bits ws) (word_bits z)) (sym e) ∙ less_self (word_bits ws)) (ap (λ z. same_bytes (word_bits ws) (word_bits z)) (sym e) ∙ same_refl (word_bits ws)))
-
 -- ---- paths that are the same
 
 -- equal bits are equal words
@@ -203,6 +208,15 @@ words_same ws vs l f g e =
     let n : ℕ = 64 * length ws in
     let a = begin_alike n ws vs l (omega arith) f g (ap (take n) e) in
     ext_get_or 0 ws vs l (λ i h. a.0 i (omega arith))
+
+same_word_bits : (ws vs : List ℕ) → length ws ≡ length vs → Fit ws → Fit vs → same_bytes ws vs ≡ same_bytes (word_bits ws) (word_bits vs)
+same_word_bits ws vs l f g =
+    same_is (word_bits ws) (word_bits vs) (same_bytes ws vs) (λ e. ap word_bits (same_true ws vs e)) (λ e. ap (λ (x : List ℕ). same_bytes x vs) (words_same ws vs l f g e) ∙ same_refl vs)
+
+pub less_packed : (n m : ℕ) (ws vs : List ℕ) → length ws ≡ length vs → Packs n ws → Packs m vs → Fit ws → Fit vs →
+    less_bytes (path_in n ws) (path_in m vs) ≡ (less_bytes ws vs || (same_bytes ws vs && ltb n m))
+less_packed n m ws vs l p q f g =
+    less_path n m ws vs l p q ∙ ap₂ (λ x y. x || (y && ltb n m)) (less_word_bits ws vs l f g) (sym (same_word_bits ws vs l f g))
 
 -- two paths of one length in words of one number
 pub same_packed : (n : ℕ) (ws vs : List ℕ) → length ws ≡ length vs → Packs n ws → Packs n vs → Fit ws → Fit vs →

@@ -1,7 +1,8 @@
 -- Bytes that are the same, that begin with others, and that are less; in steps, as loops take them.
-use Rattle.std.proofs.Common.{◌≡◌, ℕ, ◌+◌, ◌<◌, ◌≤◌, Bool, true, false, ◌&&◌, eqb, List, [], ◌∷◌, length, get_or, take, drop, sym, refl, ap, ◌∙◌, arith}
-use Rattle.std.proofs.lemmas.List.{drop_more}
-use Rattle.std.proofs.lemmas.Bool.{false≢true, eq-eqb, ne_eqb, eqb-true, and_parts}
+use Rattle.std.proofs.Common.{◌≡◌, ℕ, ◌<◌, ◌≤◌, Bool, true, false, ◌&&◌, eqb, List, [], ◌∷◌, length, get_or, take, sym, refl, ap, ◌∙◌, arith, length-take}
+use lib.Pointwise.{pointwise}
+use Rattle.std.proofs.lemmas.List.{ext_get_or, get_or-take}
+use Rattle.std.proofs.lemmas.Bool.{false≢true, eq-eqb, eqb-true, and_parts}
 use Rattle.model.specs.Records.{same_bytes, below, side}
 
 pub same_refl : (xs : List ℕ) → same_bytes xs xs ≡ true
@@ -29,13 +30,23 @@ same_is xs ys false f g = go (same_bytes xs ys) refl
     go true e = g (same_true xs ys e)
     go false e = refl
 
-pub same_drop : (xs ys : List ℕ) (i : ℕ) → i < length xs → i < length ys → get_or xs i 0 ≡ get_or ys i 0 → same_bytes (drop i xs) (drop i ys) ≡ same_bytes (drop (i + 1) xs) (drop (i + 1) ys)
+-- the library's test
+pub pointwise_same : (xs ys : List ℕ) → pointwise eqb xs ys ≡ same_bytes xs ys
 unfolding same_bytes
-same_drop xs ys i h k e = rw (drop_more xs i 0 h, drop_more ys i 0 k, eq-eqb (get_or xs i 0) (get_or ys i 0) e) refl
+pointwise_same [] [] = refl
+pointwise_same [] (y ∷ ys) = refl
+pointwise_same (x ∷ xs) [] = refl
+pointwise_same (x ∷ xs) (y ∷ ys) = ap (λ b. eqb x y && b) (pointwise_same xs ys)
 
-pub differ_drop : (xs ys : List ℕ) (i : ℕ) → i < length xs → i < length ys → (get_or xs i 0 ≡ get_or ys i 0 → ⊥) → same_bytes (drop i xs) (drop i ys) ≡ false
-unfolding same_bytes
-differ_drop xs ys i h k e = rw (drop_more xs i 0 h, drop_more ys i 0 k, ne_eqb (get_or xs i 0) (get_or ys i 0) e) refl
+-- fronts are the same exactly if each item is
+pub front_same : (k : ℕ) (xs ys : List ℕ) → length xs ≡ length ys → k ≤ length xs → ((i : ℕ) → i < k → get_or xs i 0 ≡ get_or ys i 0) → take k xs ≡ take k ys
+front_same k xs ys l h f =
+    let a : length (take k xs) ≡ k = simp length-take (omega arith) in
+    let b : length (take k ys) ≡ k = simp length-take (omega arith) in
+    ext_get_or 0 (take k xs) (take k ys) (a ∙ sym b) (λ i j. let m : i < k = omega arith in get_or-take k xs i 0 m ∙ f i m ∙ sym (get_or-take k ys i 0 m))
+
+pub same_front : (k : ℕ) (xs ys : List ℕ) → take k xs ≡ take k ys → (i : ℕ) → i < k → get_or xs i 0 ≡ get_or ys i 0
+same_front k xs ys e i h = sym (get_or-take k xs i 0 h) ∙ ap (λ (l : List ℕ). get_or l i 0) e ∙ get_or-take k ys i 0 h
 
 pub same_length : (xs ys : List ℕ) → (length xs ≡ length ys → ⊥) → same_bytes xs ys ≡ false
 same_length xs ys h = go (same_bytes xs ys) refl

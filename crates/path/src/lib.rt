@@ -1,29 +1,25 @@
 // Packed paths, 64 bits to a word, the high bit first; and timestamps.
 #![tactic(auto)]
 
-ghost use Rattle.std.specs.Prelude.{◌≡◌, ℕ, ◌-◌, ◌*◌, ◌<◌, ◌≤◌, true, List, length, is_some, IfSome, slice_index};
+ghost use Rattle.std.specs.Prelude.{◌≡◌, ℕ, ◌-◌, ◌*◌, ◌<◌, ◌≤◌, true, List, length, is_some, IfSome, slice_index, IsTrue, ◌↔◌};
 ghost use Rattle.model.specs.Records.{below, side, same_bytes, less_bytes};
 ghost use Rattle.path.specs.Packs.{word_bits, path_in, Packs};
+ghost use Rattle.path.specs.Sides.{side_number};
+ghost use Rattle.std.specs.List.{All};
 
 mod packed;
+mod side;
 mod times;
 
 pub use packed::Path;
+pub use side::Side;
 pub use times::Timestamp;
 
 // Are these the same words?
 pub fn same_words(a: &[u64], b: &[u64]) -> bool
     ensures { result ≡ same_bytes a.now b.now }
 {
-    if a.len() != b.len() {
-        return false;
-    }
-    for i in 0..a.len() {
-        if a[i] != b[i] {
-            return false;
-        }
-    }
-    true
+    a == b
 }
 
 // Are these the same path?
@@ -31,10 +27,7 @@ pub fn same_paths(len: usize, bits: &[u64], q_len: usize, q_bits: &[u64]) -> boo
     requires { length bits.now ≡ length q_bits.now }
     ensures { Packs len bits.now → Packs q_len q_bits.now → result ≡ same_bytes (path_in len bits.now) (path_in q_len q_bits.now) }
 {
-    if len != q_len {
-        return false;
-    }
-    same_words(bits, q_bits)
+    len == q_len && same_words(bits, q_bits)
 }
 
 // The bit at `i`.
@@ -57,10 +50,8 @@ pub fn below_words(len: usize, bits: &[u64], q_len: usize, q_bits: &[u64]) -> bo
     if whole >= bits.len() {
         return false;
     }
-    for i in 0..whole {
-        if bits[i] != q_bits[i] {
-            return false;
-        }
+    if bits[..whole] != q_bits[..whole] {
+        return false;
     }
     // 64 less the bits that are left, in two shifts: one by 64 would not do
     let past = 63 - q_len % 64;
@@ -68,17 +59,19 @@ pub fn below_words(len: usize, bits: &[u64], q_len: usize, q_bits: &[u64]) -> bo
 }
 
 // On which side of a path of `q_len` bits is this path?
-pub fn side_words(len: usize, bits: &[u64], q_len: usize) -> usize
-    ensures two { result < 2 }
-    ensures side { len ≤ 64 * length bits.now → (q : List ℕ) → length q ≡ q_len → result ≡ side (path_in len bits.now) q }
+pub fn side_words(len: usize, bits: &[u64], q_len: usize) -> Side
+    ensures { len ≤ 64 * length bits.now → (q : List ℕ) → length q ≡ q_len → side_number result ≡ side (path_in len bits.now) q }
 {
     if q_len >= len {
-        return 0;
+        return Side::Left;
     }
     if q_len / 64 >= bits.len() {
-        return 0;
+        return Side::Left;
     }
-    bit_of(bits, q_len) as usize
+    match bit_of(bits, q_len) {
+        0 => Side::Left,
+        _ => Side::Right,
+    }
 }
 
 // Is the path of `len` bits before the one of `q_len` bits?
@@ -86,12 +79,7 @@ pub fn less_words(len: usize, bits: &[u64], q_len: usize, q_bits: &[u64]) -> boo
     requires { length bits.now ≡ length q_bits.now }
     ensures { Packs len bits.now → Packs q_len q_bits.now → result ≡ less_bytes (path_in len bits.now) (path_in q_len q_bits.now) }
 {
-    for i in 0..bits.len() {
-        if bits[i] != q_bits[i] {
-            return bits[i] < q_bits[i];
-        }
-    }
-    len < q_len
+    (bits, len) < (q_bits, q_len)
 }
 
 // Is no bit of these words set past the first `len`?
@@ -106,12 +94,13 @@ fn none_past(len: usize, bits: &[u64]) -> bool
     if bits[whole] << (len % 64) != 0 {
         return false;
     }
-    for i in whole + 1..bits.len() {
-        if bits[i] != 0 {
-            return false;
-        }
-    }
-    true
+    are_zero(&bits[whole + 1..])
+}
+
+fn are_zero(words: &[u64]) -> bool
+    ensures { IsTrue result ↔ All (λ w. w ≡ 0) words.now }
+{
+    words.iter().all(|word| *word == 0)
 }
 
 // The path of `len` bits in four words, if no bit is set past it.
@@ -119,11 +108,14 @@ pub fn path_from_words(len: usize, bits: &[u64]) -> Option<Path>
     ensures path { IfSome result (λ p. (p.len ≡ len) × (p.bits ≡ bits.now)) }
     ensures some { length bits.now ≡ 4 → Packs len bits.now → is_some result ≡ true }
 {
-    if bits.len() != 4 || !none_past(len, bits) {
+    let [a, b, c, d] = *bits else {
+        return None;
+    };
+    if !none_past(len, bits) {
         return None;
     }
     Some(Path {
         len,
-        bits: [bits[0], bits[1], bits[2], bits[3]],
+        bits: [a, b, c, d],
     })
 }

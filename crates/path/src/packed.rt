@@ -2,6 +2,9 @@
 ghost use Rattle.std.specs.Prelude.{◌≡◌, ◌<◌, [], slice_index};
 ghost use Rattle.model.specs.Records.{below, less_bytes, same_bytes, side};
 ghost use Rattle.path.specs.Packs.{Packs, path_in};
+ghost use Rattle.path.specs.Sides.{side_number};
+
+use crate::Side;
 
 #[derive(Clone, Copy)]
 pub struct Path {
@@ -37,10 +40,9 @@ impl Path {
         crate::below_words(self.len, &self.bits, q.len, &q.bits)
     }
 
-    // On which side of that path is this one: 0 left, 1 right?
-    pub fn side_of(&self, q: &Path) -> usize
-        ensures two { result < 2 }
-        ensures side { result ≡ side (path_in self.now.len self.now.bits) (path_in q.now.len q.now.bits) }
+    // On which side of that path is this one?
+    pub fn side_of(&self, q: &Path) -> Side
+        ensures { side_number result ≡ side (path_in self.now.len self.now.bits) (path_in q.now.len q.now.bits) }
     {
         crate::side_words(self.len, &self.bits, q.len)
     }

@@ -1,14 +1,10 @@
-use Rattle.std.proofs.Common.{arith}
-use Rattle.std.proofs.lemmas.List.{ext_get_or}
-use Rattle.path.proofs.Less.{less_at, less_end}
+use Rattle.std.proofs.Common.{◌∙◌, arith, sym}
+use Rattle.path.proofs.Less.{less_packed, then_less}
 use Rattle.path.proofs.less_words.Goals as goal
-
-pub returns-then-bits-i : goal.returns-then-bits-i
-returns-then-bits-i c = λ p q.
-    less_at c.args.len c.args.q_len c.args.bits.now c.args.q_bits.now c.loop-i.i c.requires p q
-    (λ i. omega (arith, c.type_inv.bits i)) (λ i. omega (arith, c.type_inv.q_bits i)) (omega arith) c.loop-i.invariant c.if-bits-i.true
 
 pub returns : goal.returns
 returns c = λ p q.
-    less_end c.args.len c.args.q_len c.args.bits.now c.args.q_bits.now c.requires p q
-    (ext_get_or 0 c.args.bits.now c.args.q_bits.now c.requires (λ i h. c.loop-i.invariant i (omega arith)))
+    let ws = c.args.bits.now in
+    let vs = c.args.q_bits.now in
+    then_less ws vs c.args.len c.args.q_len c.lt.result c.lt.ensures
+    ∙ sym (less_packed c.args.len c.args.q_len ws vs c.requires p q (λ i. omega (arith, c.type_inv.bits i)) (λ i. omega (arith, c.type_inv.q_bits i)))

@@ -9,4 +9,4 @@ returns c =
     let q = c.args.q.now in
     let h : p.len ≤ 64 * length p.bits = search rules in
     let k : q.len ≤ 64 * length q.bits = search rules in
-    record { two = c.side_words.ensures.two; side = c.side_words.ensures.side h (path_in q.len q.bits) (length_path q.len q.bits k) }
+    c.side_words.ensures h (path_in q.len q.bits) (length_path q.len q.bits k)

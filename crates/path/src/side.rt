@@ -1,0 +1,7 @@
+// The two sides of a node.
+
+#[derive(Clone, Copy, Debug, PartialEq, Eq)]
+pub enum Side {
+    Left,
+    Right,
+}
