@@ -3,3 +3,4 @@ pub mod Words
 pub mod Below
 pub mod Less
 pub mod Past
+pub mod Sided

@@ -1,14 +1,23 @@
 -- Bytes compared with the bytes in words, eight at a time and then one at a time.
-use Rattle.std.proofs.Common.{◌≡◌, ℕ, ◌+◌, ◌*◌, ◌/◌, ◌%◌, ◌^◌, ◌<◌, ◌≤◌, true, false, List, [], ◌++◌, length, get_or, take, drop, sym, ap, ◌∙◌, subst, ap₂, ⊎_elim, append-nil, arith, length-drop, length-take}
-use Rattle.std.proofs.lemmas.List.{take-append-drop, drop-take, take-take, drop-drop, drop_all, get_or-take, get_or-drop, get_or_past, length-take-le}
-use Rattle.std.proofs.lemmas.Bool.{cases_Bool, cases_lt}
+use Rattle.std.proofs.Common.{◌≡◌, ℕ, ◌+◌, ◌*◌, ◌/◌, ◌%◌, ◌^◌, ◌<◌, ◌≤◌, true, false, List, [], ◌++◌, length, get_or, take, drop, sym, refl, ap, ◌∙◌, subst, ap₂, ⊎_elim, append-nil, arith, length-drop, length-take}
+use Rattle.std.proofs.lemmas.List.{drop_more, take-append-drop, drop-take, take-take, drop-drop, drop_all, get_or-take, get_or-drop, get_or_past, length-take-le}
+use Rattle.std.proofs.lemmas.Bool.{cases_Bool, cases_lt, eq-eqb, ne_eqb}
 use Rattle.model.specs.Records.{same_bytes, le_bytes, le_number}
 use Rattle.path.specs.Packs.{Fit}
-use Rattle.path.proofs.Same.{same_true, same_drop, differ_drop}
+use Rattle.path.proofs.Same.{same_true}
 use Rattle.path.proofs.Less.{same_same}
 use Rattle.slot.proofs.Texts.{AllBytes, length_bytes_in, bytes_number}
 use Rattle.slot.proofs.Eights.{word_bytes, get_or_bytes_in, number_then}
 use Rattle.slot.specs.Layout.{bytes_in}
+
+-- one item and then the others
+same_drop : (xs ys : List ℕ) (i : ℕ) → i < length xs → i < length ys → get_or xs i 0 ≡ get_or ys i 0 → same_bytes (drop i xs) (drop i ys) ≡ same_bytes (drop (i + 1) xs) (drop (i + 1) ys)
+unfolding same_bytes
+same_drop xs ys i h k e = rw (drop_more xs i 0 h, drop_more ys i 0 k, eq-eqb (get_or xs i 0) (get_or ys i 0) e) refl
+
+differ_drop : (xs ys : List ℕ) (i : ℕ) → i < length xs → i < length ys → (get_or xs i 0 ≡ get_or ys i 0 → ⊥) → same_bytes (drop i xs) (drop i ys) ≡ false
+unfolding same_bytes
+differ_drop xs ys i h k e = rw (drop_more xs i 0 h, drop_more ys i 0 k, ne_eqb (get_or xs i 0) (get_or ys i 0) e) refl
 
 -- eight and then the others
 eight_first : (k : ℕ) (l : List ℕ) → drop k l ≡ take 8 (drop k l) ++ drop (k + 8) l

@@ -5,15 +5,18 @@ ghost use Rattle.std.specs.Prelude.{◌≡◌, ℕ, ◌+◌, ◌*◌, ◌<◌, �
 ghost use Rattle.std.specs.Option.{option_map};
 ghost use Rattle.model.specs.Records.{data_record, node, with_child, children_of, is_data, key_path, merkle_hash};
 ghost use Rattle.path.specs.Packs.{path_in};
+ghost use Rattle.path.specs.Sides.{side_number};
 ghost use Rattle.slot.specs.Layout.{slot_words, slot_path, slot_key, rec_in, stored_in, pointer_in, number_in, PointerPacks, Slot};
 ghost use Rattle.slot.specs.Edits.{KeepsPath, Edited, Headed};
-ghost use Rattle.slot.specs.Meant.{child_meant, child_words};
+ghost use Rattle.slot.specs.Meant.{child_meant, child_words, record_meant, IsNamed, IsShort};
 
 pub mod child;
+mod contents;
 mod text;
 
 use child::Child;
-use path::Path;
+pub use contents::Contents;
+use path::{Path, Side};
 pub use text::{same_bytes, write_bytes};
 
 // How many words a slot has.
@@ -28,19 +31,29 @@ const HASH: usize = 146;
 
 const MARK: usize = 150;
 
+// Where a node's child pointer on a side is.
+pub fn pointer_start(side: Side) -> usize
+    ensures { result ≡ 8 + 10 * side_number side }
+{
+    match side {
+        Side::Left => 8,
+        Side::Right => 18,
+    }
+}
+
 // Writes what kind of record it is, how it was added, and its path.
 fn write_head(slot: &mut [u64], kind: u64, by_merkle: bool, path: &Path)
     requires size { length slot.old ≡ slot_words }
     ensures { Headed slot.new kind by_merkle path.now.len path.now.bits }
 {
     slot[0] = kind;
-    slot[1] = if by_merkle { 1 } else { 0 };
+    slot[1] = u64::from(by_merkle);
     slot[2] = path.len as u64;
     slot[3..7].copy_from_slice(&path.bits);
 }
 
 // Writes a node into a slot, whatever was there.
-pub fn write_node(slot: &mut [u64], path: &Path, left: &Child, right: &Child, by_merkle: bool)
+fn write_node(slot: &mut [u64], path: &Path, left: &Child, right: &Child, by_merkle: bool)
     requires size { length slot.old ≡ slot_words }
     ensures slot { Slot slot.new }
     ensures stored { stored_in slot.new ≡ record { rec = node (path_in path.now.len path.now.bits) (record { left = child_meant left.now; right = child_meant right.now }); by_merkle = by_merkle } }
@@ -67,7 +80,7 @@ fn write_key(slot: &mut [u64], path: &Path, key: &[u8], by_merkle: bool)
 }
 
 // Writes a key, with its value if it has one, into a slot, whatever was there.
-pub fn write_data(slot: &mut [u64], path: &Path, key: &[u8], value: Option<&[u8]>, by_merkle: bool)
+fn write_data(slot: &mut [u64], path: &Path, key: &[u8], value: Option<&[u8]>, by_merkle: bool)
     requires size { length slot.old ≡ slot_words }
     requires key { length key.now ≤ 64 }
     requires value { IfSome value (λ v. length v.now ≤ 1024) }
@@ -76,6 +89,18 @@ pub fn write_data(slot: &mut [u64], path: &Path, key: &[u8], value: Option<&[u8]
     write_key(slot, path, key, by_merkle);
     if let Some(v) = value {
         set_value(slot, v);
+    }
+}
+
+// Writes a record into a slot, whatever was there.
+pub fn write_record(slot: &mut [u64], path: &Path, contents: Contents<'_>, by_merkle: bool)
+    requires size { length slot.old ≡ slot_words }
+    requires short { IsShort contents }
+    ensures { IsNamed path.now contents.entry → Slot slot.new × (stored_in slot.new ≡ record { rec = record_meant path.now contents.entry; by_merkle = by_merkle }) }
+{
+    match contents {
+        Contents::Node(left, right) => write_node(slot, path, &left, &right, by_merkle),
+        Contents::Data(key, value) => write_data(slot, path, key, value, by_merkle),
     }
 }
 
@@ -91,7 +116,7 @@ fn write_child(s: &mut [u64], child: &Child)
             s.copy_from_slice(&[0; 10]);
         }
         Child::Present(path, hash, by_blum) => {
-            s[0] = if *by_blum { 2 } else { 1 };
+            s[0] = 1 + u64::from(*by_blum);
             s[1] = path.len as u64;
             s[2..6].copy_from_slice(&path.bits);
             s[6..10].copy_from_slice(hash);
@@ -99,14 +124,13 @@ fn write_child(s: &mut [u64], child: &Child)
     }
 }
 
-// Writes the child pointer on side `d` of the node in a slot.
-pub fn set_child(slot: &mut [u64], d: usize, child: &Child)
+// Writes the child pointer on a side of the node in a slot.
+pub fn set_child(slot: &mut [u64], side: Side, child: &Child)
     requires size { length slot.old ≡ slot_words }
-    requires two { d < 2 }
     ensures kept { KeepsPath slot.old slot.new }
-    ensures edited { Slot slot.old → is_data (rec_in slot.old) ≡ false → Edited slot.old slot.new (node (slot_path slot.old) (with_child (children_of (rec_in slot.old)) d (child_meant child.now))) }
+    ensures edited { Slot slot.old → is_data (rec_in slot.old) ≡ false → Edited slot.old slot.new (node (slot_path slot.old) (with_child (children_of (rec_in slot.old)) (side_number side) (child_meant child.now))) }
 {
-    let a = 8 + 10 * d;
+    let a = pointer_start(side);
     write_child(&mut slot[a..a + 10], child);
     slot[MARK] = 0; // the hash was of the node before
 }
