@@ -1,5 +1,5 @@
 -- Slots by a hash of their paths: word b holds the first of bucket b, word n + i what comes after slot i; 0 is none, and i + 1 is slot i.
-use Rattle.std.specs.Prelude.{◌≡◌, ℕ, suc, ◌+◌, ◌*◌, ◌<◌, ◌≤◌, Bool, true, false, ◌&&◌, ◌||◌, List, [], ◌∷◌, length, ◌==◌, slice_index, slice_index_or}
+use Rattle.std.specs.Prelude.{◌≡◌, ℕ, suc, ◌+◌, ◌*◌, ◌<◌, ◌≤◌, Bool, true, false, ◌&&◌, ◌||◌, List, [], ◌∷◌, length, Option, Some, None, ◌==◌, slice_index, slice_index_or}
 use Rattle.model.specs.Records.{same_bytes}
 use Rattle.slot.specs.Parts.{part}
 use Rattle.slot.specs.Layout.{slot_words}
@@ -24,6 +24,11 @@ says n bs w = slice_index w 2 == n && same_bytes (part 3 4 w) bs
 
 abbrev pub says_at : ℕ → List ℕ → List ℕ → ℕ → Bool
 says_at n bs m i = says n bs (part (i * slot_words) slot_words m)
+
+-- a place, or n for none
+abbrev pub place_or : ℕ → Option ℕ → ℕ
+place_or n (Some i) = i
+place_or n None = n
 
 unfoldable pub Once : List ℕ → Type 0
 Once [] = Unit {0}

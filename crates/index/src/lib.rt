@@ -1,10 +1,10 @@
 // Slots found by a hash of their paths, in chains.
 #![tactic(auto)]
 
-ghost use Rattle.std.specs.Prelude.{◌≡◌, ℕ, ◌+◌, ◌*◌, ◌<◌, ◌≤◌, Bool, true, false, List, [], ◌∷◌, ◌++◌, length, slice_index, slice_index_or, slice_set};
+ghost use Rattle.std.specs.Prelude.{◌≡◌, ℕ, ◌+◌, ◌*◌, ◌<◌, ◌≤◌, Bool, true, false, List, [], ◌∷◌, ◌++◌, length, IfSome, slice_index, slice_index_or, slice_set};
 ghost use Rattle.slot.specs.Layout.{slot_words};
 ghost use Rattle.slot.specs.Finds.{position};
-ghost use Rattle.index.specs.Chains.{Chain, Index, link_after, has, says, says_at};
+ghost use Rattle.index.specs.Chains.{Chain, Index, link_after, has, place_or, says, says_at};
 
 use path::same_words;
 use slot::SLOT_WORDS;
@@ -17,15 +17,23 @@ fn slot_says(slot: &[u64], len: usize, bits: &[u64]) -> bool
     slot[2] == len as u64 && same_words(&slot[3..7], bits)
 }
 
-// The slot in bucket `b` that has this path; `n` if none has.
-pub fn find_in(index: &[u64], slots: &[u64], n: usize, b: usize, len: usize, bits: &[u64]) -> usize
+// The slot in bucket `b` that has this path.
+pub fn find_in(
+    index: &[u64],
+    slots: &[u64],
+    n: usize,
+    b: usize,
+    len: usize,
+    bits: &[u64],
+) -> Option<usize>
     requires bucket { b < n }
     requires index { 2 * n ≤ length index.now }
     requires slots { n * slot_words ≤ length slots.now }
-    ensures { (is : List ℕ) → Chain n index.now (slice_index index.now b) is → length is ≤ n → result ≡ slice_index_or is (position (says_at len bits.now slots.now) is) n }
+    ensures within { IfSome result (λ i. i < n) }
+    ensures found { (is : List ℕ) → Chain n index.now (slice_index index.now b) is → length is ≤ n → place_or n result ≡ slice_index_or is (position (says_at len bits.now slots.now) is) n }
 {
     let mut link = index[b] as usize;
-    let mut at = n;
+    let mut at = None;
     'chain: for k in 0..n {
         if link == 0 || link > n {
             break 'chain;
@@ -33,7 +41,7 @@ pub fn find_in(index: &[u64], slots: &[u64], n: usize, b: usize, len: usize, bit
         let i = link - 1;
         let a = i * SLOT_WORDS;
         if slot_says(&slots[a..a + SLOT_WORDS], len, bits) {
-            at = i;
+            at = Some(i);
             break 'chain;
         }
         link = index[n + i] as usize;

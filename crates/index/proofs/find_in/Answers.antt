@@ -3,7 +3,7 @@ use Rattle.std.proofs.lemmas.List.{get_or_past}
 use Rattle.slot.specs.Finds.{position}
 use Rattle.slot.specs.Parts.{part}
 use Rattle.slot.proofs.Positions.{position_next, position_hit, position_end}
-use Rattle.index.specs.Chains.{Chain, says, says_at}
+use Rattle.index.specs.Chains.{Chain, place_or, says, says_at}
 use Rattle.index.proofs.Chained.{chain_zero, chain_over, chain_step, drop_head}
 use Rattle.index.proofs.find_in.Goals as goal
 use Rattle.index.proofs.find_in.Goals.{then-link-eq0-via-then-link-eq0, then-link-eq0-via-else-link-eq0+then-link-n}
@@ -31,15 +31,15 @@ chain-preserved c =
           ),
     )
 
-pub returns-after-chain : goal.returns-after-chain
-returns-after-chain c = λ is h l.
+pub returns-after-chain-clause-found : goal.returns-after-chain-clause-found
+returns-after-chain-clause-found c = λ is h l.
     let v = c.chain.invariant.1 is h in
     let t = says_at c.args.len c.args.bits.now c.args.slots.now in
     let e = position_end t is c.chain.k 0 (omega arith) v.1 in
-    c.chain.invariant.0 ∙ sym (get_or_past is (position t is) c.args.n (omega arith))
+    ap (place_or c.args.n) c.chain.invariant.0 ∙ sym (get_or_past is (position t is) c.args.n (omega arith))
 
-pub returns-then-link-eq0 : goal.returns-then-link-eq0
-returns-then-link-eq0 c = λ is h l.
+pub returns-then-link-eq0-clause-found : goal.returns-then-link-eq0-clause-found
+returns-then-link-eq0-clause-found c = λ is h l.
     let v = c.chain.invariant.1 is h in
     let t = says_at c.args.len c.args.bits.now c.args.slots.now in
     ⊎_elim
@@ -47,12 +47,12 @@ returns-then-link-eq0 c = λ is h l.
     let d : length (drop c.chain.k is) ≡ 0 = ap length (chain_zero c.args.n c.args.index.now c.chain.link (drop c.chain.k is) v.0 z) in
     let m = length-drop c.chain.k is in
     let e = position_end t is c.chain.k 0 (omega arith) v.1 in
-    c.chain.invariant.0 ∙ sym (get_or_past is (position t is) c.args.n (omega arith)))
+    ap (place_or c.args.n) c.chain.invariant.0 ∙ sym (get_or_past is (position t is) c.args.n (omega arith)))
     (λ z. absurd (chain_over c.args.n c.args.index.now c.chain.link (drop c.chain.k is) v.0 z.1))
     c.then-link-eq0.either
 
-pub returns-then-slot_says : goal.returns-then-slot_says
-returns-then-slot_says c = λ is h l.
+pub returns-then-slot_says-clause-found : goal.returns-then-slot_says-clause-found
+returns-then-slot_says-clause-found c = λ is h l.
     let v = c.chain.invariant.1 is h in
     let k = c.chain.k in
     let link = c.chain.link in
