@@ -1,19 +1,20 @@
-// Records in lent memory: found, added, changed and removed. `n` places take 192 words each.
+// Records in lent memory: found, added, changed and removed. A record's place takes 192 words.
 #![tactic(auto)]
 
-ghost use Rattle.std.specs.Prelude.{◌≡◌, ℕ, ◌+◌, ◌-◌, ◌*◌, ◌%◌, ◌^◌, ◌<◌, ◌≤◌, true, false, List, [], ◌∷◌, length, IfSome, Some, bit_xor, nat_le, slice_index};
-ghost use Rattle.std.specs.Option.{option_map};
-ghost use Rattle.model.specs.Records.{data_record, node, with_child, children_of, is_data, key_path, merkle_hash};
+ghost use Rattle.std.specs.Prelude.{◌≡◌, ℕ, ◌+◌, ◌-◌, ◌*◌, ◌%◌, ◌^◌, ◌<◌, ◌≤◌, true, false, List, [], ◌∷◌, length, IfSome, IsSome, Some, None, bit_xor, nat_le, slice_index};
+ghost use Rattle.model.specs.Records.{data_record, node, with_child, children_of, is_data, merkle_hash};
 ghost use Rattle.model.specs.Verifier.{Stored, without, updated};
 ghost use Rattle.path.specs.Packs.{path_in, Packs, Fit};
+ghost use Rattle.path.specs.Sides.{side_number};
 ghost use Rattle.slot.specs.Layout.{number_in, slot_key, Slot};
-ghost use Rattle.slot.specs.Meant.{child_meant};
+ghost use Rattle.slot.specs.Meant.{child_meant, record_meant, IsNamed, IsShort};
+ghost use Rattle.index.specs.Chains.{place_or};
 ghost use Rattle.store.specs.Holding.{halves, home, slot_at, stored_at, Holds, Found, Walked, Added};
 
 use index::{add, count_in, find_in, take_out};
-use path::Path;
+use path::{Path, Side};
 use slot::child::Child;
-use slot::{SLOT_WORDS, write_data, write_node};
+use slot::{Contents, SLOT_WORDS, write_record};
 
 // The two halves of a product, together: each bit of the word and of the salt moves about half of them.
 fn mix(mixed: u64, word: u64, by: u64) -> u64
@@ -38,30 +39,47 @@ fn home_of(n: usize, salt: u64, len: usize, bits: &[u64]) -> usize
     (mixed % (n as u64 - 1)) as usize
 }
 
-// The slot of the path of `len` bits in these words; `n` if it is not stored.
-pub fn find_words(mem: &[u64], n: usize, salt: u64, len: usize, bits: &[u64]) -> usize
+// The work is done by functions over the words, for that words fit is known of those that are a parameter.
+
+// The slot of the path of `len` bits in these words.
+fn find_words(mem: &[u64], n: usize, salt: u64, len: usize, bits: &[u64]) -> Option<usize>
     requires few { 2 ≤ n }
     requires room { length mem.now ≡ 192 * n }
     requires four { length bits.now ≡ 4 }
-    ensures walked { Packs len bits.now → Walked n salt mem.now len bits.now result }
-    ensures found { Packs len bits.now → (xs : List Stored) → Holds n salt mem.now xs → Found n mem.now xs (path_in len bits.now) result }
+    ensures within { IfSome result (λ i. i < n) }
+    ensures walked { Packs len bits.now → Walked n salt mem.now len bits.now (place_or n result) }
+    ensures found { Packs len bits.now → (xs : List Stored) → Holds n salt mem.now xs → Found n mem.now xs (path_in len bits.now) (place_or n result) }
 {
     let b = home_of(n, salt, len, bits);
     find_in(&mem[0..2 * n], &mem[2 * n..192 * n], n, b, len, bits)
 }
 
-// The slot of a path; `n` if it is not stored.
-pub fn find_path(mem: &[u64], n: usize, salt: u64, path: &Path) -> usize
+// The slot that the next record goes into, if one is free.
+fn first_free(mem: &[u64], n: usize) -> Option<usize>
     requires few { 2 ≤ n }
     requires room { length mem.now ≡ 192 * n }
-    ensures walked { Walked n salt mem.now path.now.len path.now.bits result }
-    ensures found { (xs : List Stored) → Holds n salt mem.now xs → Found n mem.now xs (path_in path.now.len path.now.bits) result }
+    ensures within { IfSome result (λ i. i < n) }
+    ensures full { (salt : ℕ) (xs : List Stored) → Holds n salt mem.now xs → nat_le n (place_or n result) ≡ nat_le n (length xs) }
+    ensures free { IfSome result (λ i. slice_index mem.now (n - 1) ≡ i + 1) }
 {
-    find_words(mem, n, salt, path.len, &path.bits)
+    let link = mem[n - 1] as usize;
+    if link == 0 || link > n {
+        return None;
+    }
+    Some(link - 1)
+}
+
+// How many records are stored.
+fn stored(mem: &[u64], n: usize) -> usize
+    requires few { 2 ≤ n }
+    requires room { length mem.now ≡ 192 * n }
+    ensures { (salt : ℕ) (xs : List Stored) → Holds n salt mem.now xs → result ≡ length xs }
+{
+    n - count_in(&mem[0..2 * n], n, n - 1)
 }
 
 // Removes the record in slot `i`, where a path was found.
-pub fn remove(mem: &mut [u64], n: usize, salt: u64, i: usize)
+fn take(mem: &mut [u64], n: usize, salt: u64, i: usize)
     requires few { 2 ≤ n }
     requires room { length mem.old ≡ 192 * n }
     requires within { i < n }
@@ -71,38 +89,6 @@ pub fn remove(mem: &mut [u64], n: usize, salt: u64, i: usize)
     let b = home_of(n, salt, mem[a + 2] as usize, &mem[a + 3..a + 7]);
     take_out(&mut mem[0..2 * n], n, b, i);
     add(&mut mem[0..2 * n], n, n - 1, i);
-}
-
-// The slot that the next record goes into; `n` if none is free.
-fn first_free(mem: &[u64], n: usize) -> usize
-    requires few { 2 ≤ n }
-    requires room { length mem.now ≡ 192 * n }
-    ensures full { (salt : ℕ) (xs : List Stored) → Holds n salt mem.now xs → nat_le n result ≡ nat_le n (length xs) }
-    ensures free { result < n → slice_index mem.now (n - 1) ≡ result + 1 }
-{
-    let link = mem[n - 1] as usize;
-    if link == 0 || link > n {
-        return n;
-    }
-    link - 1
-}
-
-// Is there no room for another record?
-pub fn is_full(mem: &[u64], n: usize) -> bool
-    requires few { 2 ≤ n }
-    requires room { length mem.now ≡ 192 * n }
-    ensures { (salt : ℕ) (xs : List Stored) → Holds n salt mem.now xs → result ≡ nat_le n (length xs) }
-{
-    first_free(mem, n) >= n
-}
-
-// How many records are stored.
-pub fn count(mem: &[u64], n: usize) -> usize
-    requires few { 2 ≤ n }
-    requires room { length mem.now ≡ 192 * n }
-    ensures { (salt : ℕ) (xs : List Stored) → Holds n salt mem.now xs → result ≡ length xs }
-{
-    n - count_in(&mem[0..2 * n], n, n - 1)
 }
 
 // The first free slot, with a record written into it, goes into the chain of its path.
@@ -118,75 +104,20 @@ fn link_first(mem: &mut [u64], n: usize, salt: u64, i: usize)
     add(&mut mem[0..2 * n], n, b, i);
 }
 
-// Adds a node. Its slot; `n` if the store is full, and then nothing is written.
-pub fn add_node(
-    mem: &mut [u64],
-    n: usize,
-    salt: u64,
-    path: &Path,
-    left: &Child,
-    right: &Child,
-    by_merkle: bool,
-) -> usize
-    requires few { 2 ≤ n }
-    requires room { length mem.old ≡ 192 * n }
-    ensures same { n ≤ result → mem.new ≡ mem.old }
-    ensures full { (xs : List Stored) → Holds n salt mem.old xs → nat_le n result ≡ nat_le n (length xs) }
-    ensures stored { (xs : List Stored) → Holds n salt mem.old xs → result < n → Added n salt mem.new xs (record { rec = node (path_in path.now.len path.now.bits) (record { left = child_meant left.now; right = child_meant right.now }); by_merkle = by_merkle }) result }
-{
-    let i = first_free(mem, n);
-    if i >= n {
-        return n;
-    }
-    let a = 2 * n + i * SLOT_WORDS;
-    write_node(&mut mem[a..a + SLOT_WORDS], path, left, right, by_merkle);
-    link_first(mem, n, salt, i);
-    i
-}
-
-// Adds a key, whose path this is, with its value if it has one. Its slot; `n` if the store is full, and then nothing is written.
-pub fn add_data(
-    mem: &mut [u64],
-    n: usize,
-    salt: u64,
-    path: &Path,
-    key: &[u8],
-    value: Option<&[u8]>,
-    by_merkle: bool,
-) -> usize
-    requires few { 2 ≤ n }
-    requires room { length mem.old ≡ 192 * n }
-    requires key { length key.now ≤ 64 }
-    requires value { IfSome value (λ v. length v.now ≤ 1024) }
-    ensures same { n ≤ result → mem.new ≡ mem.old }
-    ensures full { (xs : List Stored) → Holds n salt mem.old xs → nat_le n result ≡ nat_le n (length xs) }
-    ensures stored { (xs : List Stored) → Holds n salt mem.old xs → path_in path.now.len path.now.bits ≡ key_path key.now → result < n → Added n salt mem.new xs (record { rec = data_record key.now (option_map (λ v. v.now) value.entry); by_merkle = by_merkle }) result }
-{
-    let i = first_free(mem, n);
-    if i >= n {
-        return n;
-    }
-    let a = 2 * n + i * SLOT_WORDS;
-    write_data(&mut mem[a..a + SLOT_WORDS], path, key, value, by_merkle);
-    link_first(mem, n, salt, i);
-    i
-}
-
-// Writes the child pointer on side `d` of the node in slot `i`, where a path was found.
-pub fn set_child(mem: &mut [u64], n: usize, i: usize, d: usize, child: &Child)
+// Writes the child pointer on a side of the node in slot `i`, where a path was found.
+fn write_child(mem: &mut [u64], n: usize, i: usize, side: Side, child: &Child)
     requires few { 2 ≤ n }
     requires room { length mem.old ≡ 192 * n }
     requires within { i < n }
-    requires two { d < 2 }
     ensures stay { (salt : ℕ) (k : ℕ) (ws : List ℕ) (r : ℕ) → Walked n salt mem.old k ws r → Walked n salt mem.new k ws r }
-    ensures stored { (salt : ℕ) (xs : List Stored) (k : ℕ) (ws : List ℕ) → Holds n salt mem.old xs → Walked n salt mem.old k ws i → is_data (stored_at n mem.old i).rec ≡ false → Holds n salt mem.new (updated (node (path_in k ws) (with_child (children_of (stored_at n mem.old i).rec) d (child_meant child.now))) xs) }
+    ensures stored { (salt : ℕ) (xs : List Stored) (k : ℕ) (ws : List ℕ) → Holds n salt mem.old xs → Walked n salt mem.old k ws i → is_data (stored_at n mem.old i).rec ≡ false → Holds n salt mem.new (updated (node (path_in k ws) (with_child (children_of (stored_at n mem.old i).rec) (side_number side) (child_meant child.now))) xs) }
 {
     let a = 2 * n + i * SLOT_WORDS;
-    slot::set_child(&mut mem[a..a + SLOT_WORDS], d, child);
+    slot::set_child(&mut mem[a..a + SLOT_WORDS], side, child);
 }
 
 // Writes the value of the data record in slot `i`, where a path was found.
-pub fn set_value(mem: &mut [u64], n: usize, i: usize, value: &[u8])
+fn write_value(mem: &mut [u64], n: usize, i: usize, value: &[u8])
     requires few { 2 ≤ n }
     requires room { length mem.old ≡ 192 * n }
     requires within { i < n }
@@ -199,7 +130,7 @@ pub fn set_value(mem: &mut [u64], n: usize, i: usize, value: &[u8])
 }
 
 // Keeps the hash of the record in slot `i`, where a path was found: it is known until the record is changed.
-pub fn set_hash(mem: &mut [u64], n: usize, i: usize, hash: &[u64; 4])
+fn write_hash(mem: &mut [u64], n: usize, i: usize, hash: &[u64; 4])
     requires few { 2 ≤ n }
     requires room { length mem.old ≡ 192 * n }
     requires within { i < n }
@@ -211,15 +142,190 @@ pub fn set_hash(mem: &mut [u64], n: usize, i: usize, hash: &[u64; 4])
 }
 
 // Nothing is stored yet, whatever the words were.
-pub fn open(mem: &mut [u64], n: usize)
+fn clear(mem: &mut [u64], n: usize)
     requires few { 2 ≤ n }
     requires room { length mem.old ≡ 192 * n }
     ensures { (salt : ℕ) → Holds n salt mem.new [] }
 {
-    for b in 0..n {
-        mem[b] = 0;
-    }
+    mem[0..n].fill(0);
     for i in 0..n {
         add(&mut mem[0..2 * n], n, n - 1, i);
+    }
+}
+
+// The words of a store, lent to be read: `places` records, in chains that the salt decides.
+#[derive(Clone, Copy)]
+pub struct StoreRef<'a> {
+    pub words: &'a [u64],
+    pub places: usize,
+    pub salt: u64,
+    ghost few: { 2 ≤ places },
+    ghost room: { length words.now ≡ 192 * places },
+}
+
+impl<'a> StoreRef<'a> {
+    pub fn new(words: &'a [u64], places: usize, salt: u64) -> StoreRef<'a>
+        requires few { 2 ≤ places }
+        requires room { length words.now ≡ 192 * places }
+        ensures words { result.words.now ≡ words.now }
+        ensures places { result.places ≡ places }
+        ensures salt { result.salt ≡ salt }
+    {
+        StoreRef {
+            words,
+            places,
+            salt,
+        }
+    }
+
+    // The slot of the path of `len` bits in these words.
+    pub fn find_words(self, len: usize, bits: &[u64]) -> Option<usize>
+        requires { length bits.now ≡ 4 }
+        ensures within { IfSome result (λ i. i < self.entry.places) }
+        ensures walked { Packs len bits.now → Walked self.entry.places self.entry.salt self.entry.words.now len bits.now (place_or self.entry.places result) }
+        ensures found { Packs len bits.now → (xs : List Stored) → Holds self.entry.places self.entry.salt self.entry.words.now xs → Found self.entry.places self.entry.words.now xs (path_in len bits.now) (place_or self.entry.places result) }
+    {
+        find_words(self.words, self.places, self.salt, len, bits)
+    }
+
+    // The slot of a path.
+    pub fn find(self, path: &Path) -> Option<usize>
+        ensures within { IfSome result (λ i. i < self.entry.places) }
+        ensures walked { Walked self.entry.places self.entry.salt self.entry.words.now path.now.len path.now.bits (place_or self.entry.places result) }
+        ensures found { (xs : List Stored) → Holds self.entry.places self.entry.salt self.entry.words.now xs → Found self.entry.places self.entry.words.now xs (path_in path.now.len path.now.bits) (place_or self.entry.places result) }
+    {
+        self.find_words(path.len, &path.bits)
+    }
+
+    // The words of a slot.
+    pub fn slot(self, i: usize) -> &'a [u64]
+        requires { i < self.places }
+        ensures { result.now ≡ slot_at self.entry.places self.entry.words.now i }
+    {
+        let mem = self.words;
+        let a = 2 * self.places + i * SLOT_WORDS;
+        &mem[a..a + SLOT_WORDS]
+    }
+
+    // Is there no room for another record?
+    pub fn is_full(self) -> bool
+        ensures { (salt : ℕ) (xs : List Stored) → Holds self.entry.places salt self.entry.words.now xs → result ≡ nat_le self.entry.places (length xs) }
+    {
+        first_free(self.words, self.places).is_none()
+    }
+
+    // How many records are stored.
+    pub fn count(self) -> usize
+        ensures { (salt : ℕ) (xs : List Stored) → Holds self.entry.places salt self.entry.words.now xs → result ≡ length xs }
+    {
+        stored(self.words, self.places)
+    }
+}
+
+// The words of a store, lent to be written.
+#[derive(Drop)]
+pub struct Store<'a> {
+    pub words: &'a mut [u64],
+    pub places: usize,
+    pub salt: u64,
+    ghost few: { 2 ≤ places },
+    ghost room: { length words.now ≡ 192 * places },
+}
+
+impl<'a> Store<'a> {
+    ghost use Rattle.store.specs.Stores.{Frame};
+
+    pub fn new(words: &'a mut [u64], places: usize, salt: u64) -> Store<'a>
+        requires few { 2 ≤ places }
+        requires room { length words.old ≡ 192 * places }
+        ensures same { result.words.ghost_name ≡ words.entry.ghost_name }
+        ensures words { result.words.now ≡ words.old }
+        ensures places { result.places ≡ places }
+        ensures salt { result.salt ≡ salt }
+    {
+        Store {
+            words,
+            places,
+            salt,
+        }
+    }
+
+    pub fn as_ref(&self) -> StoreRef<'_>
+        ensures words { result.words.now ≡ self.now.words.now }
+        ensures places { result.places ≡ self.now.places }
+        ensures salt { result.salt ≡ self.now.salt }
+    {
+        StoreRef::new(self.words, self.places, self.salt)
+    }
+
+    // Nothing is stored yet, whatever the words were.
+    pub fn open(&mut self)
+        ensures frame { Frame self.old self.new }
+        ensures none { (salt : ℕ) → Holds self.new.places salt self.new.words.now [] }
+    {
+        let n = self.places;
+        clear(self.words, n);
+    }
+
+    // Removes the record in slot `i`, where a path was found.
+    pub fn remove(&mut self, i: usize)
+        requires { i < self.old.places }
+        ensures frame { Frame self.old self.new }
+        ensures without { (xs : List Stored) (k : ℕ) (ws : List ℕ) → Holds self.old.places self.old.salt self.old.words.now xs → Walked self.old.places self.old.salt self.old.words.now k ws i → Holds self.old.places self.old.salt self.new.words.now (without (path_in k ws) xs) }
+    {
+        let (n, salt) = (self.places, self.salt);
+        take(self.words, n, salt, i);
+    }
+
+    // Adds a record at a path. Its slot; none if the store is full, and then nothing is written.
+    pub fn add(&mut self, path: &Path, contents: Contents<'_>, by_merkle: bool) -> Option<usize>
+        requires { IsShort contents }
+        ensures frame { Frame self.old self.new }
+        ensures within { IfSome result (λ i. i < self.old.places) }
+        ensures same { result ≡ None → self.new.words.now ≡ self.old.words.now }
+        ensures full { (xs : List Stored) → Holds self.old.places self.old.salt self.old.words.now xs → nat_le self.old.places (place_or self.old.places result) ≡ nat_le self.old.places (length xs) }
+        ensures stored { (xs : List Stored) → Holds self.old.places self.old.salt self.old.words.now xs → IsNamed path.now contents.entry → IfSome result (λ i. Added self.old.places self.old.salt self.new.words.now xs (record { rec = record_meant path.now contents.entry; by_merkle = by_merkle }) i) }
+    {
+        let (n, salt) = (self.places, self.salt);
+        let mem = &mut *self.words;
+        let i = first_free(mem, n)?;
+        let a = 2 * n + i * SLOT_WORDS;
+        write_record(&mut mem[a..a + SLOT_WORDS], path, contents, by_merkle);
+        link_first(mem, n, salt, i);
+        Some(i)
+    }
+
+    // Writes the child pointer on a side of the node in slot `i`, where a path was found.
+    pub fn set_child(&mut self, i: usize, side: Side, child: &Child)
+        requires { i < self.old.places }
+        ensures frame { Frame self.old self.new }
+        ensures stay { (salt : ℕ) (k : ℕ) (ws : List ℕ) (r : ℕ) → Walked self.old.places salt self.old.words.now k ws r → Walked self.old.places salt self.new.words.now k ws r }
+        ensures stored { (salt : ℕ) (xs : List Stored) (k : ℕ) (ws : List ℕ) → Holds self.old.places salt self.old.words.now xs → Walked self.old.places salt self.old.words.now k ws i → is_data (stored_at self.old.places self.old.words.now i).rec ≡ false → Holds self.old.places salt self.new.words.now (updated (node (path_in k ws) (with_child (children_of (stored_at self.old.places self.old.words.now i).rec) (side_number side) (child_meant child.now))) xs) }
+    {
+        let n = self.places;
+        write_child(self.words, n, i, side, child);
+    }
+
+    // Writes the value of the data record in slot `i`, where a path was found.
+    pub fn set_value(&mut self, i: usize, value: &[u8])
+        requires within { i < self.old.places }
+        requires value { length value.now ≤ 1024 }
+        ensures frame { Frame self.old self.new }
+        ensures stay { (salt : ℕ) (k : ℕ) (ws : List ℕ) (r : ℕ) → Walked self.old.places salt self.old.words.now k ws r → Walked self.old.places salt self.new.words.now k ws r }
+        ensures stored { (salt : ℕ) (xs : List Stored) (k : ℕ) (ws : List ℕ) → Holds self.old.places salt self.old.words.now xs → Walked self.old.places salt self.old.words.now k ws i → is_data (stored_at self.old.places self.old.words.now i).rec ≡ true → Holds self.old.places salt self.new.words.now (updated (data_record (slot_key (slot_at self.old.places self.old.words.now i)) (Some value.now)) xs) }
+    {
+        let n = self.places;
+        write_value(self.words, n, i, value);
+    }
+
+    // Keeps the hash of the record in slot `i`, where a path was found: it is known until the record is changed.
+    pub fn set_hash(&mut self, i: usize, hash: &[u64; 4])
+        requires { i < self.old.places }
+        ensures frame { Frame self.old self.new }
+        ensures stay { (salt : ℕ) (k : ℕ) (ws : List ℕ) (r : ℕ) → Walked self.old.places salt self.old.words.now k ws r → Walked self.old.places salt self.new.words.now k ws r }
+        ensures stored { (salt : ℕ) (xs : List Stored) (k : ℕ) (ws : List ℕ) → Holds self.old.places salt self.old.words.now xs → Walked self.old.places salt self.old.words.now k ws i → number_in hash.now ≡ merkle_hash (stored_at self.old.places self.old.words.now i).rec → Holds self.old.places salt self.new.words.now xs }
+    {
+        let n = self.places;
+        write_hash(self.words, n, i, hash);
     }
 }

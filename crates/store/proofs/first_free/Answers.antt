@@ -7,6 +7,7 @@ use Rattle.store.proofs.first_free.Goals as goal
 
 pub returns-then-link-eq0 : goal.returns-then-link-eq0
 returns-then-link-eq0 c = record {
+  within = tt;
   full = λ salt ss H.
       let n = c.args.n in
       let m = c.args.mem.now in
@@ -21,11 +22,12 @@ returns-then-link-eq0 c = record {
       (λ z. absurd (chain_over n (part 0 (2 * n) m) (get_or (part 0 (2 * n) m) (n - 1) 0) (get_or cs (n - 1) []) ch (omega (arith, z.1))))
       c.then-link-eq0.either in
       ap (leb n) (sym all);
-  free = λ h. absurd (omega arith);
+  free = tt;
 }
 
 pub returns : goal.returns
 returns c = record {
+  within = omega arith;
   full = λ salt ss H.
       let n = c.args.n in
       let m = c.args.mem.now in
@@ -36,5 +38,5 @@ returns c = record {
       let one = ap length step.0 in
       let ct = x.count in
       lt-leb n (get_or m (n - 1) 0 - 1) (omega arith) ∙ sym (lt-leb n (length ss) (omega arith));
-  free = λ h. omega arith;
+  free = omega arith;
 }

@@ -8,7 +8,7 @@ use Rattle.slot.specs.Edits.{KeepsPath, Edited}
 use Rattle.slot.proofs.Parted.{length_part}
 use Rattle.store.specs.Holding.{slot_at, Holds, Walked}
 use Rattle.store.proofs.Edits.{walked_slot, walked_on, held_edited}
-use Rattle.store.proofs.set_value.Goals as goal
+use Rattle.store.proofs.write_value.Goals as goal
 
 pub returns : goal.returns
 returns c =

@@ -1,19 +1,22 @@
-use Rattle.std.proofs.Common.{◌≡◌, ℕ, ◌+◌, ◌-◌, ◌*◌, ◌≢◌, List, length, take, sym, ap, ◌∙◌, subst, arith, length-take, get_or-set_other, get_or-set_same, below_more}
+use Rattle.std.proofs.Common.{◌≡◌, ℕ, ◌+◌, ◌-◌, ◌*◌, List, ◌++◌, length, get_or, take, drop, replicate, length-append, length-drop, sym, ap, ◌∙◌, subst, arith, length-take}
+use Rattle.std.proofs.lemmas.List.{get_or_append_left, get_or-replicate, length-replicate}
 use Rattle.slot.specs.Parts.{part, put}
 use Rattle.slot.proofs.Parted.{part_put}
 use Rattle.index.specs.Chains.{Index}
 use Rattle.store.specs.Holding.{free_below}
 use Rattle.store.proofs.Opened.{index_none, fresh_below, free_more, held_none_yet}
-use Rattle.store.proofs.open.Goals as goal
-
-pub loop-b-preserved : goal.loop-b-preserved
-loop-b-preserved c =
-    below_more _ _
-    (λ k h. let ne : k ≢ c.loop-b.b = omega arith in get_or-set_other c.loop-b.mem c.loop-b.b k 0 0 ne ∙ c.loop-b.invariant k h)
-    (get_or-set_same c.loop-b.mem c.loop-b.b 0 0 (omega arith))
+use Rattle.store.proofs.clear.Goals as goal
 
 pub loop-i-init : goal.loop-i-init
-loop-i-init c = index_none c.args.n c.loop-b.mem c.requires.few (omega arith) (λ k h. c.loop-b.invariant k (omega arith))
+loop-i-init c =
+    let n = c.args.n in
+    let m = c.args.mem.now in
+    let len : length (take (n - 0) m) ≡ n = simp length-take (omega arith) in
+    let e : c.fill.new.self ≡ replicate n 0 = c.fill.ensures.after (λ y q. q) ∙ ap (λ k. replicate k 0) len in
+    index_none n (c.fill.new.self ++ drop (n - 0) m) c.requires.few (omega (arith, length-append {A = ℕ}, length-drop {A = ℕ}))
+    (λ k h.
+    get_or_append_left c.fill.new.self (drop (n - 0) m) 0 k (omega (arith, ap length e, length-replicate {A = ℕ} n 0))
+    ∙ ap (λ (l : List ℕ). get_or l k 0) e ∙ get_or-replicate n k 0 0 h)
 
 pub loop-i-preserved : goal.loop-i-preserved
 loop-i-preserved c =

@@ -7,7 +7,7 @@ use Rattle.slot.specs.Edits.{KeepsPath, Edited}
 use Rattle.slot.proofs.Parted.{length_part}
 use Rattle.store.specs.Holding.{slot_at, Holds, Walked}
 use Rattle.store.proofs.Edits.{walked_slot, walked_on, held_rehashed}
-use Rattle.store.proofs.set_hash.Goals as goal
+use Rattle.store.proofs.write_hash.Goals as goal
 
 pub returns : goal.returns
 returns c =

@@ -8,7 +8,7 @@ use Rattle.store.specs.Holding.{home, slot_at, Packing, Held}
 use Rattle.store.proofs.Members.{home_in_slot}
 use Rattle.store.proofs.Held.{home_below, length_chain, found_at, chain_parts, not_front, fresh1, r_in, held_out, out1, out2}
 use Rattle.store.proofs.Edits.{walk_end}
-use Rattle.store.proofs.remove.Goals as goal
+use Rattle.store.proofs.take.Goals as goal
 
 pub returns : goal.returns
 returns c = λ ss k ws H W.

@@ -5,11 +5,12 @@ use Rattle.path.specs.Packs.{path_in, Fit}
 use Rattle.slot.specs.Parts.{part, put}
 use Rattle.slot.specs.Layout.{rec_in, slot_path, Slot}
 use Rattle.slot.specs.Edits.{KeepsPath, Edited}
+use Rattle.path.specs.Sides.{side_number}
 use Rattle.slot.specs.Meant.{child_meant}
 use Rattle.slot.proofs.Parted.{length_part}
 use Rattle.store.specs.Holding.{slot_at, Holds, Walked}
 use Rattle.store.proofs.Edits.{walked_slot, walked_on, held_edited}
-use Rattle.store.proofs.set_child.Goals as goal
+use Rattle.store.proofs.write_child.Goals as goal
 
 pub returns : goal.returns
 returns c =
@@ -29,7 +30,7 @@ returns c =
       stored = λ salt ss k ws H W nk.
           let sp = walked_slot n salt m ss H k ws i W c.requires.within in
           let s = child_meant c.args.child.now in
-          let d = c.args.d in
+          let d = side_number c.args.side in
           let cs = children_of (rec_in (slot_at n m i)) in
           let E : Edited (slot_at n m i) w (node (slot_path (slot_at n m i)) (with_child cs d s)) =
           subst (λ (v : List ℕ). Edited v w (node (slot_path v) (with_child (children_of (rec_in v)) d s))) p

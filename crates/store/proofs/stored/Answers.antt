@@ -2,7 +2,7 @@ use Rattle.std.proofs.Common.{◌≡◌, ℕ, ◌-◌, ◌*◌, ◌≤◌, [], l
 use Rattle.index.specs.Chains.{Chain}
 use Rattle.store.specs.Holding.{Held}
 use Rattle.store.proofs.Members.{length_total}
-use Rattle.store.proofs.count.Goals as goal
+use Rattle.store.proofs.stored.Goals as goal
 
 pub returns : goal.returns
 returns c = λ salt ss H.
