@@ -1,5 +1,5 @@
 -- What is read from a slot.
-use Rattle.std.proofs.Common.{◌≡◌, ℕ, zero, suc, ◌+◌, ◌-◌, ◌*◌, ◌<◌, ◌≤◌, true, false, not, eqb, List, [], ◌∷◌, get_or, Some, None, sym, refl, ap, ◌∙◌, ⊎_elim, add-zero, arith}
+use Rattle.std.proofs.Common.{◌≡◌, ℕ, zero, suc, ◌+◌, ◌*◌, ◌<◌, true, false, not, eqb, List, [], ◌∷◌, get_or, Some, None, sym, refl, ap, ◌∙◌, ⊎_elim, arith}
 use Rattle.std.proofs.lemmas.Bool.{ne_eqb, eq-eqb, cases_eq}
 use Rattle.model.specs.Records.{Path, Children, Record, Bytes, Value, absent, present, same_bytes, same_value, pick, is_data, children_of, child_on, node, data_record}
 use Rattle.slot.specs.Parts.{part}
@@ -8,7 +8,6 @@ use Rattle.path.specs.Packs.{path_in}
 use Rattle.model.specs.Verifier.{Stored, find, points_at_merkle, found_by_merkle, has_key, has_value}
 use Rattle.reads.specs.Points.{points}
 use Rattle.slot.proofs.Children.{node_stored}
-use Rattle.slot.proofs.Parted.{get_d_part, part_part}
 use Rattle.slot.proofs.Finding.{pick_true, pick_false}
 
 pub data_stored : (w : List ℕ) → (get_or w 0 0 ≡ 0 → ⊥) → rec_in w ≡ data_record (slot_key w) (pick (eqb (get_or w 0 0) 2) (Some (slot_text w)) None)
@@ -35,14 +34,10 @@ pointer_at w (suc zero) h e = ap (λ (t : Children). child_on t 1) (node_childre
 pointer_at w (suc (suc d)) h e = absurd (omega arith)
 
 -- the first word of a slot
-pub tag_at : (a : ℕ) (m : List ℕ) → get_or (part a 190 m) 0 0 ≡ get_or m a 0
-tag_at a m = get_d_part a 190 m 0 (omega arith) ∙ ap (λ (i : ℕ). get_or m i 0) (add-zero a)
-
-pub tag_test : (a : ℕ) (m : List ℕ) → eqb (get_or m a 0) 0 ≡ not (is_data (rec_in (part a 190 m)))
-tag_test a m =
-    let w = part a 190 m in
-    ⊎_elim (λ (z : get_or w 0 0 ≡ 0). eq-eqb (get_or m a 0) 0 (sym (tag_at a m) ∙ z) ∙ sym (ap not (data_not w z)))
-    (λ (ne : get_or w 0 0 ≡ 0 → ⊥). ne_eqb (get_or m a 0) 0 (λ z. ne (tag_at a m ∙ z)) ∙ sym (ap not (data_is w ne)))
+pub tag_test : (w : List ℕ) → eqb (get_or w 0 0) 0 ≡ not (is_data (rec_in w))
+tag_test w =
+    ⊎_elim (λ (z : get_or w 0 0 ≡ 0). eq-eqb (get_or w 0 0) 0 z ∙ sym (ap not (data_not w z)))
+    (λ (ne : get_or w 0 0 ≡ 0 → ⊥). ne_eqb (get_or w 0 0) 0 ne ∙ sym (ap not (data_is w ne)))
     (cases_eq (get_or w 0 0) 0)
 
 -- a side by its words
@@ -73,14 +68,6 @@ merkle_away ss s ne e = ap (points_at_merkle ss) (pointer_some s ne) ∙ ap foun
 pub merkle_found : (ss : List Stored) (s : List ℕ) (x : Stored) → (get_or s 0 0 ≡ 0 → ⊥) → find (path_in (get_or s 1 0) (part 2 4 s)) ss ≡ x ∷ [] → points_at_merkle ss (pointer_in s) ≡ x.by_merkle
 unfolding points_at_merkle found_by_merkle
 merkle_found ss s x ne e = ap (points_at_merkle ss) (pointer_some s ne) ∙ ap found_by_merkle e
-
--- a word of a slot
-pub word_at : (a i : ℕ) (m : List ℕ) → i < 190 → get_or (part a 190 m) i 0 ≡ get_or m (a + i) 0
-word_at a i m h = get_d_part a 190 m i h
-
--- a part of a slot, as the code cuts it
-pub part_at : (a f t : ℕ) (m : List ℕ) → f ≤ t → t ≤ 190 → part (a + f) (a + t - (a + f)) m ≡ part f (t - f) (part a 190 m)
-part_at a f t m h k = let e : a + t - (a + f) ≡ t - f = omega arith in ap (λ (j : ℕ). part (a + f) j m) e ∙ sym (part_part f (t - f) a 190 m (omega arith))
 
 -- a key and a value
 

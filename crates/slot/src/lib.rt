@@ -22,14 +22,23 @@ pub use text::{same_bytes, write_bytes};
 // How many words a slot has.
 pub const SLOT_WORDS: usize = 190;
 
-// Where the words of a slot are.
-const KEY: usize = 8;
+// Where the words of a slot are: what kind of record it is (0 a node, 1 a key without a value, 2 a key with one: numbers, for the
+// words are lent), and whether it was added by Merkle; a key's length, and then the key; a value's likewise; the hash; and whether
+// the record is unchanged since it had that hash.
+pub const KIND: usize = 0;
 
-const VALUE: usize = 17;
+pub const BY_MERKLE: usize = 1;
 
-const HASH: usize = 146;
+pub const KEY: usize = 8;
 
-const MARK: usize = 150;
+pub const VALUE: usize = 17;
+
+pub const HASH: usize = 146;
+
+pub const MARK: usize = 150;
+
+// How many words a child pointer has.
+pub const POINTER_WORDS: usize = 10;
 
 // Where a node's child pointer on a side is.
 pub fn pointer_start(side: Side) -> usize
@@ -46,8 +55,8 @@ fn write_head(slot: &mut [u64], kind: u64, by_merkle: bool, path: &Path)
     requires size { length slot.old ≡ slot_words }
     ensures { Headed slot.new kind by_merkle path.now.len path.now.bits }
 {
-    slot[0] = kind;
-    slot[1] = u64::from(by_merkle);
+    slot[KIND] = kind;
+    slot[BY_MERKLE] = u64::from(by_merkle);
     slot[2] = path.len as u64;
     slot[3..7].copy_from_slice(&path.bits);
 }
@@ -131,7 +140,7 @@ pub fn set_child(slot: &mut [u64], side: Side, child: &Child)
     ensures edited { Slot slot.old → is_data (rec_in slot.old) ≡ false → Edited slot.old slot.new (node (slot_path slot.old) (with_child (children_of (rec_in slot.old)) (side_number side) (child_meant child.now))) }
 {
     let a = pointer_start(side);
-    write_child(&mut slot[a..a + 10], child);
+    write_child(&mut slot[a..a + POINTER_WORDS], child);
     slot[MARK] = 0; // the hash was of the node before
 }
 
@@ -142,7 +151,7 @@ pub fn set_value(slot: &mut [u64], value: &[u8])
     ensures kept { KeepsPath slot.old slot.new }
     ensures edited { Slot slot.old → is_data (rec_in slot.old) ≡ true → Edited slot.old slot.new (data_record (slot_key slot.old) (Some value.now)) }
 {
-    slot[0] = 2;
+    slot[KIND] = 2;
     slot[VALUE] = value.len() as u64;
     let past = VALUE + 1 + (value.len() + 7) / 8;
     write_bytes(&mut slot[VALUE + 1..past], value);

@@ -6,7 +6,7 @@ ghost use Rattle.model.specs.Records.{data_record, node, with_child, children_of
 ghost use Rattle.model.specs.Verifier.{Stored, without, updated};
 ghost use Rattle.path.specs.Packs.{path_in, Packs, Fit};
 ghost use Rattle.path.specs.Sides.{side_number};
-ghost use Rattle.slot.specs.Layout.{number_in, slot_key, Slot};
+ghost use Rattle.slot.specs.Layout.{number_in, slot_key, slot_words, Slot};
 ghost use Rattle.slot.specs.Meant.{child_meant, record_meant, IsNamed, IsShort};
 ghost use Rattle.index.specs.Chains.{place_or};
 ghost use Rattle.store.specs.Holding.{halves, home, slot_at, stored_at, Holds, Found, Walked, Added};
@@ -200,7 +200,8 @@ impl<'a> StoreRef<'a> {
     // The words of a slot.
     pub fn slot(self, i: usize) -> &'a [u64]
         requires { i < self.places }
-        ensures { result.now ≡ slot_at self.entry.places self.entry.words.now i }
+        ensures words { result.now ≡ slot_at self.entry.places self.entry.words.now i }
+        ensures size { length result.now ≡ slot_words }
     {
         let mem = self.words;
         let a = 2 * self.places + i * SLOT_WORDS;

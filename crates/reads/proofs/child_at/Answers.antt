@@ -1,23 +1,23 @@
-use Rattle.std.proofs.Common.{◌≡◌, ℕ, ◌+◌, ◌-◌, ◌*◌, sym, ap, ◌∙◌, subst, arith}
+use Rattle.std.proofs.Common.{◌≡◌, ℕ, ◌+◌, ◌-◌, ◌*◌, List, sym, ap, ◌∙◌, subst, arith}
+use Rattle.path.specs.Sides.{side_number}
+use Rattle.path.proofs.Sided.{side_below}
 use Rattle.slot.specs.Parts.{part}
 use Rattle.slot.specs.Layout.{pointer_in, PointerPacks}
-use Rattle.store.specs.Holding.{slot_at}
-use Rattle.slot.proofs.Parted.{part_part}
+use Rattle.store.specs.Stores.{slot_of}
 use Rattle.slot.proofs.Children.{node_tag}
 use Rattle.reads.proofs.Read.{pointer_at}
 use Rattle.reads.proofs.child_at.Goals as goal
 
 pub returns : goal.returns
 returns c = λ sl nk.
-    let n = c.args.n in
-    let m = c.args.mem.now in
-    let d = c.args.d in
-    let w = slot_at n m c.args.i in
-    let b = 2 * n + c.args.i * 190 in
-    let a = b + (8 + 10 * d) in
-    let z = node_tag w nk in
+    let d = side_number c.args.side in
+    let two = side_below c.args.side in
+    let w = slot_of c.args.store c.args.i in
+    let a = c.pointer_start-a.result in
     let ten : a + 10 - a ≡ 10 = omega arith in
-    let e : part a (a + 10 - a) m ≡ part (8 + 10 * d) 10 w = ap (λ (k : ℕ). part a k m) ten ∙ sym (part_part (8 + 10 * d) 10 b 190 m (omega (arith, c.requires.two))) in
-    c.child_in.ensures (subst PointerPacks (sym e) (sl.shaped.pointers z d c.requires.two))
+    let e : part a (a + 10 - a) c.slot.result.now ≡ part (8 + 10 * d) 10 w =
+    ap (λ (k : ℕ). part a k c.slot.result.now) ten ∙ ap (λ (k : ℕ). part k 10 c.slot.result.now) c.pointer_start-a.ensures ∙ ap (λ (l : List ℕ). part (8 + 10 * d) 10 l) c.slot.ensures.words in
+    let z = node_tag w nk in
+    c.child_in.ensures (subst PointerPacks (sym e) (sl.shaped.pointers z d two))
     ∙ ap pointer_in e
-    ∙ sym (pointer_at w d c.requires.two z)
+    ∙ sym (pointer_at w d two z)

@@ -1,25 +1,24 @@
-use Rattle.std.proofs.Common.{◌≡◌, ℕ, ◌+◌, ◌*◌, ◌≤◌, List, get_or, take, sym, ◌∙◌, ap₂, arith}
+use Rattle.std.proofs.Common.{◌≡◌, ℕ, ◌≤◌, List, get_or, take, sym, ap, ◌∙◌, subst, arith}
 use Rattle.model.specs.Records.{same_bytes}
-use Rattle.store.specs.Holding.{slot_at}
-use Rattle.reads.proofs.Read.{tag_at, word_at, part_at, node_key, data_key}
+use Rattle.model.specs.Verifier.{has_key}
+use Rattle.slot.specs.Parts.{part}
+use Rattle.slot.specs.Layout.{rec_in, bytes_in, Slot}
+use Rattle.reads.proofs.Read.{node_key, data_key}
 use Rattle.reads.proofs.has_key.Goals as goal
-use Rattle.slot.specs.Layout.{bytes_in}
 
-pub returns-then-mem-a-eq0 : goal.returns-then-mem-a-eq0
-returns-then-mem-a-eq0 c = λ _.
-    let m = c.args.mem.now in
-    let a = 2 * c.args.n + c.args.i * 190 in
-    sym (node_key (slot_at c.args.n m c.args.i) c.args.key.now (tag_at a m ∙ c.if-mem-a-eq0.true))
+pub returns-then-slot-eq0 : goal.returns-then-slot-eq0
+returns-then-slot-eq0 c = λ _.
+    let k = c.args.key.now in
+    sym (node_key c.slot-slot.result.now k c.if-slot-eq0.true) ∙ ap (λ (l : List ℕ). has_key (rec_in l) k) c.slot-slot.ensures.words
 
 pub returns : goal.returns
 returns c = λ s.
-    let m = c.args.mem.now in
     let k = c.args.key.now in
-    let a = 2 * c.args.n + c.args.i * 190 in
-    let w = slot_at c.args.n m c.args.i in
-    let ne : get_or w 0 0 ≡ 0 → ⊥ = λ z. c.if-mem-a-eq0.false (sym (tag_at a m) ∙ z) in
-    let few : get_or w 8 0 ≤ 64 = (s.shaped.room ne).0 in
-    let l : c.min-len.result ≡ get_or w 8 0 = omega (arith, c.min-len.ensures, few, word_at a 8 m (omega arith)) in
+    let w = c.slot-slot.result.now in
+    let sl : Slot w = subst Slot (sym c.slot-slot.ensures.words) s in
+    let few : get_or w 8 0 ≤ 64 = (sl.shaped.room c.if-slot-eq0.false).0 in
+    let l : c.min-len.result ≡ get_or w 8 0 = omega (arith, c.min-len.ensures, few) in
     c.same_bytes.ensures
-    ∙ ap₂ (λ (n : ℕ) (ws : List ℕ). same_bytes (take n (bytes_in ws)) k) l (part_at a 9 17 m (omega arith) (omega arith))
-    ∙ sym (data_key w k ne)
+    ∙ ap (λ (n : ℕ). same_bytes (take n (bytes_in (part 9 8 w))) k) l
+    ∙ sym (data_key w k c.if-slot-eq0.false)
+    ∙ ap (λ (x : List ℕ). has_key (rec_in x) k) c.slot-slot.ensures.words

@@ -1,45 +1,41 @@
-use Rattle.std.proofs.Common.{◌≡◌, ℕ, ◌+◌, ◌*◌, Bool, not, ◌&&◌, ◌||◌, List, get_or, sym, ap, ◌∙◌, subst, arith}
+use Rattle.std.proofs.Common.{◌≡◌, ℕ, Bool, not, ◌&&◌, ◌||◌, List, get_or, sym, ap, ◌∙◌, subst, arith}
 use Rattle.model.specs.Records.{Children, children_of}
 use Rattle.model.specs.Verifier.{Stored, has_merkle_child, points_at_merkle}
 use Rattle.slot.specs.Parts.{part}
-use Rattle.slot.specs.Layout.{pointer_in, PointerPacks, Slot, rec_in}
-use Rattle.slot.proofs.Parted.{part_part}
-use Rattle.reads.proofs.Read.{tag_at, data_is, data_not, node_children}
+use Rattle.slot.specs.Layout.{pointer_in, Slot, rec_in}
+use Rattle.reads.proofs.Read.{data_is, data_not, node_children}
 use Rattle.reads.proofs.has_merkle_child.Goals as goal
 
--- of a place, by its two sides
-two_pointers : (ss : List Stored) (b : ℕ) (m : List ℕ) → get_or m b 0 ≡ 0
-    → has_merkle_child ss (rec_in (part b 190 m)) ≡ (points_at_merkle ss (pointer_in (part (b + 8) 10 m)) || points_at_merkle ss (pointer_in (part (b + 18) 10 m)))
-two_pointers ss b m e =
-    let w = part b 190 m in
-    let z = tag_at b m ∙ e in
+-- of a node, by its two sides
+two_pointers : (ss : List Stored) (w : List ℕ) → get_or w 0 0 ≡ 0
+    → has_merkle_child ss (rec_in w) ≡ (points_at_merkle ss (pointer_in (part 8 10 w)) || points_at_merkle ss (pointer_in (part 18 10 w)))
+two_pointers ss w z =
     ap (λ (k : Bool). not k && (points_at_merkle ss (children_of (rec_in w)).left || points_at_merkle ss (children_of (rec_in w)).right)) (data_not w z)
     ∙ ap (λ (t : Children). points_at_merkle ss t.left || points_at_merkle ss t.right) (node_children w z)
-    ∙ ap (λ (l : List ℕ). points_at_merkle ss (pointer_in l) || points_at_merkle ss (pointer_in (part 18 10 w))) (part_part 8 10 b 190 m (omega arith))
-    ∙ ap (λ (l : List ℕ). points_at_merkle ss (pointer_in (part (b + 8) 10 m)) || points_at_merkle ss (pointer_in l)) (part_part 18 10 b 190 m (omega arith))
 
-packs : (b : ℕ) (m : List ℕ) → get_or m b 0 ≡ 0 → Slot (part b 190 m) → PointerPacks (part (b + 8) 10 m) × PointerPacks (part (b + 18) 10 m)
-packs b m e s =
-    let z = tag_at b m ∙ e in
-    (subst PointerPacks (part_part 8 10 b 190 m (omega arith)) (s.shaped.pointers z 0 (omega arith)), subst PointerPacks (part_part 18 10 b 190 m (omega arith)) (s.shaped.pointers z 1 (omega arith)))
+-- in a slot as it was read
+read : (w v : List ℕ) → w ≡ v → (ss : List Stored) (b : Bool) → b ≡ has_merkle_child ss (rec_in w) → b ≡ has_merkle_child ss (rec_in v)
+read w v e ss b h = h ∙ ap (λ (l : List ℕ). has_merkle_child ss (rec_in l)) e
 
-pub returns-then-mem-a-ne0 : goal.returns-then-mem-a-ne0
-returns-then-mem-a-ne0 c = λ ss H s.
-    let b = 2 * c.args.n + c.args.i * 190 in
-    let w = part b 190 c.args.mem.now in
-    sym (ap (λ (k : Bool). not k && (points_at_merkle ss (children_of (rec_in w)).left || points_at_merkle ss (children_of (rec_in w)).right)) (data_is w (λ z. c.if-mem-a-ne0.true (sym (tag_at b c.args.mem.now) ∙ z))))
+pub returns-then-slot-ne0 : goal.returns-then-slot-ne0
+returns-then-slot-ne0 c = λ ss H s.
+    let w = c.slot-slot.result.now in
+    read w _ c.slot-slot.ensures.words ss _
+    (sym (ap (λ (k : Bool). not k && (points_at_merkle ss (children_of (rec_in w)).left || points_at_merkle ss (children_of (rec_in w)).right)) (data_is w c.if-slot-ne0.true)))
 
 pub returns-then-points_at_merkle : goal.returns-then-points_at_merkle
 returns-then-points_at_merkle c = λ ss H s.
-    let b = 2 * c.args.n + c.args.i * 190 in
-    let m = c.args.mem.now in
-    let z = c.if-mem-a-ne0.false in
-    sym (two_pointers ss b m z ∙ ap (λ (k : Bool). k || points_at_merkle ss (pointer_in (part (b + 18) 10 m))) (sym (c.if-points_at_merkle.ensures ss H (packs b m z s).0)))
+    let w = c.slot-slot.result.now in
+    let z = c.if-slot-ne0.false in
+    let sl : Slot w = subst Slot (sym c.slot-slot.ensures.words) s in
+    read w _ c.slot-slot.ensures.words ss _
+    (sym (two_pointers ss w z ∙ ap (λ (k : Bool). k || points_at_merkle ss (pointer_in (part 18 10 w))) (sym (c.if-points_at_merkle.ensures ss H (sl.shaped.pointers z 0 (omega arith))))))
 
 pub returns : goal.returns
 returns c = λ ss H s.
-    let b = 2 * c.args.n + c.args.i * 190 in
-    let m = c.args.mem.now in
-    let z = c.if-mem-a-ne0.false in
-    c.points_at_merkle-2.ensures ss H (packs b m z s).1
-    ∙ sym (two_pointers ss b m z ∙ ap (λ (k : Bool). k || points_at_merkle ss (pointer_in (part (b + 18) 10 m))) (sym (c.if-points_at_merkle.ensures ss H (packs b m z s).0)))
+    let w = c.slot-slot.result.now in
+    let z = c.if-slot-ne0.false in
+    let sl : Slot w = subst Slot (sym c.slot-slot.ensures.words) s in
+    read w _ c.slot-slot.ensures.words ss _
+    (c.points_at_merkle-2.ensures ss H (sl.shaped.pointers z 1 (omega arith))
+    ∙ sym (two_pointers ss w z ∙ ap (λ (k : Bool). k || points_at_merkle ss (pointer_in (part 18 10 w))) (sym (c.if-points_at_merkle.ensures ss H (sl.shaped.pointers z 0 (omega arith))))))

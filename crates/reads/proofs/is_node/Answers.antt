@@ -1,6 +1,8 @@
-use Rattle.std.proofs.Common.{◌+◌, ◌*◌}
+use Rattle.std.proofs.Common.{not, ap, ◌∙◌, List}
+use Rattle.model.specs.Records.{is_data}
+use Rattle.slot.specs.Layout.{rec_in}
 use Rattle.reads.proofs.Read.{tag_test}
 use Rattle.reads.proofs.is_node.Goals as goal
 
 pub returns : goal.returns
-returns c = tag_test (2 * c.args.n + c.args.i * 190) c.args.mem.now
+returns c = tag_test c.slot.result.now ∙ ap (λ (w : List _). not (is_data (rec_in w))) c.slot.ensures.words
