@@ -1,10 +1,15 @@
 -- What is left by each of the ways in which a record is added by Merkle.
 use Rattle.std.specs.Prelude.{◌≡◌, ℕ, true, false, List, [], ◌∷◌}
-use Rattle.model.specs.Records.{Path, Record, Children, present, node, path_of, is_data, children_of, with_child, side}
+use Rattle.std.specs.Option.{option_map}
+use Rattle.model.specs.Records.{Path, Record, Children, present, node, data_record, path_of, is_data, children_of, with_child, side}
 use Rattle.model.specs.Verifier.{Stored, Verifier, Step, goes, updated, with_record, with_store}
 use Rattle.path.specs.Packs.{path_in}
 use Rattle.conditions.specs.declared.parts.Way.{Way}
 use Rattle.conditions.specs.declared.parts.Way.TheVariants.{First, Again, Between}
+use Rattle.path.specs.declared.packed.Path as packed
+use Rattle.slot.specs.declared.contents.Contents.{Contents}
+use Rattle.slot.specs.declared.contents.Contents.TheVariants.{Node, Data}
+use Rattle.slot.specs.Meant.{child_meant}
 use Rattle.slot.specs.Layout.{number_in}
 
 -- the store where the node above is this one, unless it knew the record before
@@ -47,3 +52,8 @@ pointing q above d p = node q (with_child (children_of above) d (present p 0 fal
 
 abbrev pub added_by : Way → Verifier → Record → Path → Record → ℕ → Step
 added_by w v x q above d = goes (with_record (with_store v (after_link w (pointing q above d (path_of x)) v.store)) (record_after w x) true) [] [] (hashed_by w x)
+
+-- what is stored of what is added, with what it is put above
+abbrev pub contents_after : Way → packed.Path → Contents → Record
+contents_after w p (Node l r) = node (path_in p.len p.bits) (children_after w (path_in p.len p.bits) (record { left = child_meant l; right = child_meant r }))
+contents_after w p (Data k v) = data_record k.now (option_map (λ x. x.now) v)

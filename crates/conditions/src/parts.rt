@@ -1,5 +1,5 @@
 // What is found of an entry that may be done, and why one may not.
-use path::Path;
+use path::{Path, Side};
 
 // The first condition that fails, in the order in which an entry's rule has them.
 #[derive(Clone, Copy)]
@@ -37,7 +37,17 @@ pub enum Failure {
 pub struct Edge {
     pub slot: usize,
     pub above: usize,
-    pub side: usize,
+    pub side: Side,
+}
+
+// What is told of a record that is to be added by Merkle: its path, whether it is as every record is at first, whether it is a
+// node's, and what its hash is taken over.
+#[derive(Clone, Copy)]
+pub struct Candidate<'a> {
+    pub path: Path,
+    pub is_initial: bool,
+    pub of_node: bool,
+    pub merkle_bytes: &'a [u8],
 }
 
 // In which way a record is added by Merkle.
@@ -55,6 +65,6 @@ pub enum Way {
 #[derive(Clone, Copy)]
 pub struct Adding {
     pub above: usize,
-    pub side: usize,
+    pub side: Side,
     pub way: Way,
 }

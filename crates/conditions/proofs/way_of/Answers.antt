@@ -16,12 +16,12 @@ own_hash x own bytes e h = e ∙ ap hash_of h
 hash_is : (x : Record) (h own : ℕ) (b : Bool) → b ≡ eqb h own → own ≡ merkle_hash x → eqb h (merkle_hash x) ≡ b
 hash_is x h own b e o = ap (eqb h) (sym o) ∙ sym e
 
-pub returns-else-is_initial : goal.returns-else-is_initial
-returns-else-is_initial c = λ v x q above w. first_not v x q above _ (ap child_meant c.in-Absent.is) (sym c.if-is_initial.false ∙ w.initial_is)
+pub returns-else-candidate : goal.returns-else-candidate
+returns-else-candidate c = λ v x q above w. first_not v x q above _ (ap child_meant c.in-Absent.is) (sym c.if-candidate.false ∙ w.initial_is)
 
-pub returns-then-is_initial : goal.returns-then-is_initial
-returns-then-is_initial c = λ v x q above w. record {
-  step = first v x q above _ (ap child_meant c.in-Absent.is) (sym c.if-is_initial.true ∙ w.initial_is);
+pub returns-then-candidate : goal.returns-then-candidate
+returns-then-candidate c = λ v x q above w. record {
+  step = first v x q above _ (ap child_meant c.in-Absent.is) (sym c.if-candidate.true ∙ w.initial_is);
   own = tt;
   over = tt;
 }
@@ -44,13 +44,13 @@ returns-then-is_same c = λ v x q above w.
       over = tt;
     }
 
-pub returns-then-not-is_initial : goal.returns-then-not-is_initial
-returns-then-not-is_initial c = λ v x q above w.
-    not_initial v x q above _ _ _ _ (ap child_meant c.in-Present.is) (of_record x (same_bytes _) _ false w.path_is c.if-is_same.ensures) (sym c.if-not-is_initial.true ∙ w.initial_is)
+pub returns-then-not-candidate : goal.returns-then-not-candidate
+returns-then-not-candidate c = λ v x q above w.
+    not_initial v x q above _ _ _ _ (ap child_meant c.in-Present.is) (of_record x (same_bytes _) _ false w.path_is c.if-is_same.ensures) (sym c.if-not-candidate.true ∙ w.initial_is)
 
-pub returns-then-not-of_node : goal.returns-then-not-of_node
-returns-then-not-of_node c = λ v x q above w.
-    not_node v x q above _ _ _ _ (ap child_meant c.in-Present.is) (of_record x (same_bytes _) _ false w.path_is c.if-is_same.ensures) (sym c.if-not-of_node.true ∙ w.node_is)
+pub returns-then-not-candidate-2 : goal.returns-then-not-candidate-2
+returns-then-not-candidate-2 c = λ v x q above w.
+    not_node v x q above _ _ _ _ (ap child_meant c.in-Present.is) (of_record x (same_bytes _) _ false w.path_is c.if-is_same.ensures) (sym c.if-not-candidate-2.true ∙ w.node_is)
 
 pub returns-then-not-is_below : goal.returns-then-not-is_below
 returns-then-not-is_below c = λ v x q above w.
@@ -59,10 +59,10 @@ returns-then-not-is_below c = λ v x q above w.
 
 pub returns-else-not-is_below : goal.returns-else-not-is_below
 returns-else-not-is_below c = λ v x q above w.
-    let is = sym c.if-not-of_node.false ∙ w.node_is in
+    let is = sym c.if-not-candidate-2.false ∙ w.node_is in
     record {
       step =
-          between v x q above _ _ _ _ (ap child_meant c.in-Present.is) (of_record x (same_bytes _) _ false w.path_is c.if-is_same.ensures) (sym c.if-not-is_initial.false ∙ w.initial_is) is
+          between v x q above _ _ _ _ (ap child_meant c.in-Present.is) (of_record x (same_bytes _) _ false w.path_is c.if-is_same.ensures) (sym c.if-not-candidate.false ∙ w.initial_is) is
           (sym (of_record x (below _) _ true w.path_is c.if-not-is_below.ensures));
       own = tt;
       over = not-true _ (sym is);
