@@ -1,74 +1,61 @@
 // What entries that are right write into the store.
 #![tactic(auto)]
 
-ghost use Rattle.std.specs.Prelude.{◌≡◌, ℕ, ◌*◌, ◌<◌, ◌≤◌, Bool, true, false, List, ◌∷◌, length, IfSome};
-ghost use Rattle.std.specs.Option.{option_map};
-ghost use Rattle.model.specs.Records.{is_data, children_of, node, data_record, with_child, present, key_path, merkle_hash};
+ghost use Rattle.std.specs.Prelude.{◌≡◌, ℕ, ◌<◌, ◌≤◌, Bool, true, false, List, ◌∷◌, length, IfSome, Option};
+ghost use Rattle.model.specs.Records.{is_data, children_of, node, with_child, present, merkle_hash};
 ghost use Rattle.model.specs.Verifier.{Stored, without, updated};
 ghost use Rattle.path.specs.Packs.{path_in};
+ghost use Rattle.path.specs.Sides.{side_number};
 ghost use Rattle.slot.specs.Layout.{Slot, number_in};
-ghost use Rattle.slot.specs.Meant.{child_meant};
+ghost use Rattle.slot.specs.Meant.{record_meant, IsNamed, IsShort};
 ghost use Rattle.store.specs.Holding.{slot_at, stored_at, Holds, Walked, Added};
-ghost use Rattle.conditions.specs.Ways.{after_link, children_after, OwnHash};
+ghost use Rattle.store.specs.Stores.{slot_of, stored_of, Frame};
+ghost use Rattle.conditions.specs.Ways.{after_link, contents_after, OwnHash};
 
 use conditions::{Adding, Edge, Way};
 use gather::{MERKLE_BYTES, merkle_out};
-use path::Path;
+use path::{Path, Side};
 use reads::known_hash;
 use sha256::digest;
-use slot::SLOT_WORDS;
+use slot::Contents;
 use slot::child::Child;
-use store::{add_data, add_node, remove, set_child, set_hash};
+use store::{Store, StoreRef};
 
 // The Merkle hash of the record in slot `i`: the one beside it, if the record hasn't changed since.
-fn merkle_hash_of(mem: &[u64], n: usize, i: usize) -> [u64; 4]
-    requires room { length mem.now ≡ 192 * n }
-    requires within { i < n }
-    ensures { Slot (slot_at n mem.now i) → number_in result ≡ merkle_hash (stored_at n mem.now i).rec }
+fn merkle_hash_of(store: StoreRef<'_>, i: usize) -> [u64; 4]
+    requires { i < store.places }
+    ensures { Slot (slot_of store.entry i) → number_in result ≡ merkle_hash (stored_of store.entry i).rec }
 {
-    if let Some(hash) = known_hash(mem, n, i) {
+    if let Some(hash) = known_hash(store, i) {
         return hash;
     }
-    let a = 2 * n + i * SLOT_WORDS;
     let mut bytes = [0u8; MERKLE_BYTES];
-    let end = merkle_out(&mem[a..a + SLOT_WORDS], &mut bytes, 0);
+    let end = merkle_out(store.slot(i), &mut bytes, 0);
     digest(&bytes[0..end])
 }
 
 // EvictMerkle: the node above knows the record's hash, and the record leaves.
-pub fn evict_merkle(mem: &mut [u64], n: usize, salt: u64, path: &Path, edge: Edge)
-    requires few { 2 ≤ n }
-    requires room { length mem.old ≡ 192 * n }
-    requires slot { edge.slot < n }
-    requires above { edge.above < n }
-    requires two { edge.side < 2 }
-    ensures { (xs : List Stored) (l : ℕ) (us : List ℕ) → Holds n salt mem.old xs → Slot (slot_at n mem.old edge.slot) → Walked n salt mem.old path.now.len path.now.bits edge.slot → Walked n salt mem.old l us edge.above → is_data (stored_at n mem.old edge.above).rec ≡ false → Holds n salt mem.new (without (path_in path.now.len path.now.bits) (updated (node (path_in l us) (with_child (children_of (stored_at n mem.old edge.above).rec) edge.side (present (path_in path.now.len path.now.bits) (merkle_hash (stored_at n mem.old edge.slot).rec) false))) xs)) }
+pub fn evict_merkle(store: &mut Store<'_>, path: &Path, edge: Edge)
+    requires slot { edge.slot < store.old.places }
+    requires above { edge.above < store.old.places }
+    ensures frame { Frame store.old store.new }
+    ensures evicted { (xs : List Stored) (l : ℕ) (us : List ℕ) → Holds store.old.places store.old.salt store.old.words.now xs → Slot (slot_at store.old.places store.old.words.now edge.slot) → Walked store.old.places store.old.salt store.old.words.now path.now.len path.now.bits edge.slot → Walked store.old.places store.old.salt store.old.words.now l us edge.above → is_data (stored_at store.old.places store.old.words.now edge.above).rec ≡ false → Holds store.old.places store.old.salt store.new.words.now (without (path_in path.now.len path.now.bits) (updated (node (path_in l us) (with_child (children_of (stored_at store.old.places store.old.words.now edge.above).rec) (side_number edge.side) (present (path_in path.now.len path.now.bits) (merkle_hash (stored_at store.old.places store.old.words.now edge.slot).rec) false))) xs)) }
 {
-    let hash = merkle_hash_of(mem, n, edge.slot);
-    set_child(
-        mem,
-        n,
-        edge.above,
-        edge.side,
-        &Child::Present(*path, hash, false),
-    );
-    remove(mem, n, salt, edge.slot);
+    let hash = merkle_hash_of(store.as_ref(), edge.slot);
+    store.set_child(edge.above, edge.side, &Child::Present(*path, hash, false));
+    store.remove(edge.slot);
 }
 
 // The node above knows the record, with hash 0, unless it knew it before.
-fn link(mem: &mut [u64], n: usize, path: &Path, adding: &Adding)
-    requires few { 2 ≤ n }
-    requires room { length mem.old ≡ 192 * n }
-    requires above { adding.now.above < n }
-    requires two { adding.now.side < 2 }
-    ensures { (salt : ℕ) (xs : List Stored) (l : ℕ) (us : List ℕ) → Holds n salt mem.old xs → Walked n salt mem.old l us adding.now.above → is_data (stored_at n mem.old adding.now.above).rec ≡ false → Holds n salt mem.new (after_link adding.now.way (node (path_in l us) (with_child (children_of (stored_at n mem.old adding.now.above).rec) adding.now.side (present (path_in path.now.len path.now.bits) 0 false))) xs) }
+fn link(store: &mut Store<'_>, path: &Path, adding: &Adding)
+    requires { adding.now.above < store.old.places }
+    ensures frame { Frame store.old store.new }
+    ensures linked { (xs : List Stored) (l : ℕ) (us : List ℕ) → Holds store.old.places store.old.salt store.old.words.now xs → Walked store.old.places store.old.salt store.old.words.now l us adding.now.above → is_data (stored_at store.old.places store.old.words.now adding.now.above).rec ≡ false → Holds store.old.places store.old.salt store.new.words.now (after_link adding.now.way (node (path_in l us) (with_child (children_of (stored_at store.old.places store.old.words.now adding.now.above).rec) (side_number adding.now.side) (present (path_in path.now.len path.now.bits) 0 false))) xs) }
 {
     if let Way::Again(_) = adding.way {
         return;
     }
-    set_child(
-        mem,
-        n,
+    store.set_child(
         adding.above,
         adding.side,
         &Child::Present(*path, [0; 4], false),
@@ -76,75 +63,45 @@ fn link(mem: &mut [u64], n: usize, path: &Path, adding: &Adding)
 }
 
 // A record that came with its hash keeps it.
-fn keep_hash(mem: &mut [u64], n: usize, i: usize, way: &Way)
-    requires few { 2 ≤ n }
-    requires room { length mem.old ≡ 192 * n }
-    ensures { (salt : ℕ) (xs : List Stored) (x : Stored) → i < n → Added n salt mem.old xs x i → OwnHash way.now (merkle_hash x.rec) → Holds n salt mem.new (x ∷ xs) }
+fn keep_hash(store: &mut Store<'_>, i: usize, way: &Way)
+    requires { i < store.old.places }
+    ensures frame { Frame store.old store.new }
+    ensures kept { (xs : List Stored) (x : Stored) → Added store.old.places store.old.salt store.old.words.now xs x i → OwnHash way.now (merkle_hash x.rec) → Holds store.old.places store.old.salt store.new.words.now (x ∷ xs) }
 {
     if let Way::Again(hash) = way {
-        if i < n {
-            set_hash(mem, n, i, hash);
-        }
+        store.set_hash(i, hash);
     }
 }
 
-// AddMerkle of a key with its value, if it has one.
-pub fn add_merkle_data(
-    mem: &mut [u64],
-    n: usize,
-    salt: u64,
-    path: &Path,
-    key: &[u8],
-    value: Option<&[u8]>,
-    adding: &Adding,
-)
-    requires few { 2 ≤ n }
-    requires room { length mem.old ≡ 192 * n }
-    requires key { length key.now ≤ 64 }
-    requires value { IfSome value (λ v. length v.now ≤ 1024) }
-    requires above { adding.now.above < n }
-    requires two { adding.now.side < 2 }
-    ensures { (xs : List Stored) (l : ℕ) (us : List ℕ) → Holds n salt mem.old xs → length xs < n → path_in path.now.len path.now.bits ≡ key_path key.now → Walked n salt mem.old l us adding.now.above → is_data (stored_at n mem.old adding.now.above).rec ≡ false → OwnHash adding.now.way (merkle_hash (data_record key.now (option_map (λ v. v.now) value.entry))) → Holds n salt mem.new (record { rec = data_record key.now (option_map (λ v. v.now) value.entry); by_merkle = true } ∷ after_link adding.now.way (node (path_in l us) (with_child (children_of (stored_at n mem.old adding.now.above).rec) adding.now.side (present (path_in path.now.len path.now.bits) 0 false))) xs) }
+// What is stored of a record: what was known where a node is put between is its child.
+fn with_next<'a>(path: &Path, contents: Contents<'a>, way: &Way) -> Contents<'a>
+    requires { IsShort contents }
+    ensures after { record_meant path.now result ≡ contents_after way.now path.now contents.entry }
+    ensures named { IsNamed path.now contents.entry → IsNamed path.now result }
+    ensures short { IsShort result }
 {
-    link(mem, n, path, adding);
-    let i = add_data(mem, n, salt, path, key, value, true);
-    keep_hash(mem, n, i, &adding.way);
-}
-
-// The child pointers of a node that is added: what was known where it is put between is its child.
-fn with_next(path: &Path, left: &Child, right: &Child, way: &Way) -> (Child, Child)
-    ensures { record { left = child_meant result.0; right = child_meant result.1 } ≡ children_after way.now (path_in path.now.len path.now.bits) (record { left = child_meant left.now; right = child_meant right.now }) }
-{
-    match way {
-        Way::Between(next, hash, by_blum) => {
-            let child = Child::Present(*next, *hash, *by_blum);
-            if next.side_of(path) == 0 {
-                return (child, *right);
-            }
-            (*left, child)
-        }
-        _ => (*left, *right),
+    let Contents::Node(left, right) = contents else {
+        return contents;
+    };
+    let Way::Between(next, hash, by_blum) = way else {
+        return contents;
+    };
+    let child = Child::Present(*next, *hash, *by_blum);
+    match next.side_of(path) {
+        Side::Left => Contents::Node(child, right),
+        Side::Right => Contents::Node(left, child),
     }
 }
 
-// AddMerkle of a node.
-pub fn add_merkle_node(
-    mem: &mut [u64],
-    n: usize,
-    salt: u64,
-    path: &Path,
-    left: &Child,
-    right: &Child,
-    adding: &Adding,
-)
-    requires few { 2 ≤ n }
-    requires room { length mem.old ≡ 192 * n }
-    requires above { adding.now.above < n }
-    requires two { adding.now.side < 2 }
-    ensures { (xs : List Stored) (l : ℕ) (us : List ℕ) → Holds n salt mem.old xs → length xs < n → Walked n salt mem.old l us adding.now.above → is_data (stored_at n mem.old adding.now.above).rec ≡ false → OwnHash adding.now.way (merkle_hash (node (path_in path.now.len path.now.bits) (record { left = child_meant left.now; right = child_meant right.now }))) → Holds n salt mem.new (record { rec = node (path_in path.now.len path.now.bits) (children_after adding.now.way (path_in path.now.len path.now.bits) (record { left = child_meant left.now; right = child_meant right.now })); by_merkle = true } ∷ after_link adding.now.way (node (path_in l us) (with_child (children_of (stored_at n mem.old adding.now.above).rec) adding.now.side (present (path_in path.now.len path.now.bits) 0 false))) xs) }
+// AddMerkle.
+pub fn add_merkle(store: &mut Store<'_>, path: &Path, contents: Contents<'_>, adding: &Adding)
+    requires short { IsShort contents }
+    requires above { adding.now.above < store.old.places }
+    ensures frame { Frame store.old store.new }
+    ensures added { (xs : List Stored) (l : ℕ) (us : List ℕ) → Holds store.old.places store.old.salt store.old.words.now xs → length xs < store.old.places → IsNamed path.now contents.entry → Walked store.old.places store.old.salt store.old.words.now l us adding.now.above → is_data (stored_at store.old.places store.old.words.now adding.now.above).rec ≡ false → OwnHash adding.now.way (merkle_hash (record_meant path.now contents.entry)) → Holds store.old.places store.old.salt store.new.words.now (record { rec = contents_after adding.now.way path.now contents.entry; by_merkle = true } ∷ after_link adding.now.way (node (path_in l us) (with_child (children_of (stored_at store.old.places store.old.words.now adding.now.above).rec) (side_number adding.now.side) (present (path_in path.now.len path.now.bits) 0 false))) xs) }
 {
-    link(mem, n, path, adding);
-    let (left, right) = with_next(path, left, right, &adding.way);
-    let i = add_node(mem, n, salt, path, &left, &right, true);
-    keep_hash(mem, n, i, &adding.way);
+    link(store, path, adding);
+    if let Some(i) = store.add(path, with_next(path, contents, &adding.way), true) {
+        keep_hash(store, i, &adding.way);
+    }
 }

@@ -5,7 +5,7 @@ use Rattle.conditions.specs.declared.parts.Way.{Way}
 use Rattle.conditions.specs.Ways.{OwnHash}
 use Rattle.changes.proofs.keep_hash.Goals as goal
 
-pub returns-then-i-n : goal.returns-then-i-n
-returns-then-i-n c = λ salt xs x h added own.
-    c.set_hash.ensures.stored salt _ _ _ added.holds added.in_use
+pub returns-in-Again-clause-kept : goal.returns-in-Again-clause-kept
+returns-in-Again-clause-kept c = λ xs x added own.
+    c.set_hash.ensures.stored c.args.store.now.salt _ _ _ added.holds added.in_use
     (subst (λ (w : Way). OwnHash w (merkle_hash x.rec)) c.in-Again.is own ∙ ap (λ (s : Stored). merkle_hash s.rec) (sym added.stored))

@@ -1,17 +1,8 @@
-use Rattle.std.proofs.Common.{sym, ap, ◌∙◌}
-use Rattle.conditions.specs.declared.parts.Way.{Way}
-use Rattle.slot.specs.Meant.{child_meant}
-use Rattle.path.specs.Packs.{path_in}
-use Rattle.conditions.specs.Ways.{children_after}
-use Rattle.changes.proofs.Linked.{with_left, with_right}
+use Rattle.changes.proofs.Linked.{put_left, put_right}
 use Rattle.changes.proofs.with_next.Goals as goal
 
-pub returns-then-side_of-eq0 : goal.returns-then-side_of-eq0
-returns-then-side_of-eq0 c =
-    sym (ap (λ (w : Way). children_after w (path_in c.args.path.now.len c.args.path.now.bits) (record { left = child_meant c.args.left.now; right = child_meant c.args.right.now })) c.in-Between.is
-    ∙ with_left _ _ _ (sym c.if-side_of-eq0.true ∙ c.side_of.ensures.side))
+pub returns-in-Left-clause-after : goal.returns-in-Left-clause-after
+returns-in-Left-clause-after c = put_left c.args.way.now c.args.contents c.args.path.now c.in-Between.next c.in-Between.hash c.in-Between.by_blum c.in-Node.left c.in-Node.right c.in-Between.is c.in-Node.is c.in-Left.ensures
 
-pub returns-else-side_of-eq0 : goal.returns-else-side_of-eq0
-returns-else-side_of-eq0 c =
-    sym (ap (λ (w : Way). children_after w (path_in c.args.path.now.len c.args.path.now.bits) (record { left = child_meant c.args.left.now; right = child_meant c.args.right.now })) c.in-Between.is
-    ∙ with_right _ _ _ _ c.side_of.ensures.side c.side_of.ensures.two c.if-side_of-eq0.false)
+pub returns-in-Right-clause-after : goal.returns-in-Right-clause-after
+returns-in-Right-clause-after c = put_right c.args.way.now c.args.contents c.args.path.now c.in-Between.next c.in-Between.hash c.in-Between.by_blum c.in-Node.left c.in-Node.right c.in-Between.is c.in-Node.is c.in-Right.ensures
