@@ -5,7 +5,9 @@ use Rattle.path.specs.Packs.{path_in, Packs}
 use Rattle.slot.specs.Parts.{part, put}
 use Rattle.slot.proofs.Parted.{length_part, length_put, part_put, part_before, at_before}
 use Rattle.store.specs.Holding.{Holds}
-use Rattle.block.specs.Blocks.{Keeps, salt_in, store_in}
+use Rattle.store.specs.Stores.{Contains}
+use Rattle.store.specs.declared.StoreRef.{StoreRef}
+use Rattle.block.specs.Blocks.{IsStoreOf, Keeps, salt_in, store_in}
 
 -- the store's words, as code takes them
 pub store_taken : (n : ℕ) (b : List ℕ) → part 64 (64 + 192 * n - 64) b ≡ store_in n b
@@ -13,6 +15,12 @@ store_taken n b = let e : 64 + 192 * n - 64 ≡ 192 * n = omega arith in ap (λ 
 
 pub taken_holds : (n : ℕ) (b : List ℕ) (v : Verifier) → Keeps n b v → Holds n (salt_in b) (part 64 (64 + 192 * n - 64) b) v.store
 taken_holds n b v k = subst (λ (m : List ℕ). Holds n (salt_in b) m v.store) (sym (store_taken n b)) k.store
+
+-- a store that is lent to be read
+pub viewed : (n : ℕ) (b : List ℕ) (v : Verifier) (s : StoreRef) → IsStoreOf n b s → Keeps n b v → Contains s v.store
+viewed n b v s e k =
+    subst (λ (m : ℕ). Holds m s.salt s.words.now v.store) (sym e.places)
+    (subst (λ (t : ℕ). Holds n t s.words.now v.store) (sym e.salt) (subst (λ (m : List ℕ). Holds n (salt_in b) m v.store) (sym e.words) k.store))
 
 -- other words in the store, and the rest as it was
 pub store_written : (n : ℕ) (b m : List ℕ) (v : Verifier) (xs : List Stored) → Keeps n b v → length m ≡ length (part 64 (64 + 192 * n - 64) b) → Holds n (salt_in b) m xs → Keeps n (put 64 (64 + 192 * n - 64) b m) (with_store v xs)

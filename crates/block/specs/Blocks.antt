@@ -7,6 +7,7 @@ use Rattle.model.specs.Verifier.{Timestamp, Verifier, Step, fails, goes}
 use Rattle.path.specs.Packs.{path_in, Packs}
 use Rattle.slot.specs.Parts.{part}
 use Rattle.store.specs.Holding.{Holds}
+use Rattle.store.specs.declared.StoreRef.{StoreRef}
 
 abbrev pub block_words : ℕ → ℕ
 block_words n = 64 + 192 * n
@@ -22,6 +23,12 @@ salt_in b = slice_index b 8
 
 abbrev pub store_in : ℕ → List ℕ → List ℕ
 store_in n b = part 64 (192 * n) b
+
+-- these are the words of the block's store, with its salt
+pub record IsStoreOf (n : ℕ) (b : List ℕ) (s : StoreRef) : Type 0 where
+  pub words : s.words.now ≡ store_in n b
+  pub places : s.places ≡ n
+  pub salt : s.salt ≡ salt_in b
 
 -- the words keep the verifier
 pub record Keeps (n : ℕ) (b : List ℕ) (v : Verifier) : Type 0 where

@@ -6,7 +6,9 @@ ghost use Rattle.block.specs.Blocks.{block_words, Keeps};
 
 use crate::{SALT, STORE};
 use path::Path;
+use slot::Contents;
 use slot::child::Child;
+use store::Store;
 
 // A store as it is at first: with the root if it has it, else with nothing.
 fn open_store(mem: &mut [u64], n: usize, salt: u64, has_root: bool)
@@ -14,17 +16,11 @@ fn open_store(mem: &mut [u64], n: usize, salt: u64, has_root: bool)
     requires room { length mem.old ≡ 192 * n }
     ensures { (t : ℕ) → has_root ≡ (t == 0) → Holds n salt mem.new (new_verifier t).store }
 {
-    store::open(mem, n);
+    let mut store = Store::new(mem, n, salt);
+    store.open();
     if has_root {
-        store::add_node(
-            mem,
-            n,
-            salt,
-            &Path::root(),
-            &Child::Absent,
-            &Child::Absent,
-            true,
-        );
+        let no_children = Contents::Node(Child::Absent, Child::Absent);
+        store.add(&Path::root(), no_children, true);
     }
 }
 

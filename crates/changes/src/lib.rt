@@ -38,6 +38,7 @@ fn merkle_hash_of(store: StoreRef<'_>, i: usize) -> [u64; 4]
 pub fn evict_merkle(store: &mut Store<'_>, path: &Path, edge: Edge)
     requires slot { edge.slot < store.old.places }
     requires above { edge.above < store.old.places }
+    ensures same { store.new.words.ghost_name ≡ store.old.words.ghost_name }
     ensures frame { Frame store.old store.new }
     ensures evicted { (xs : List Stored) (l : ℕ) (us : List ℕ) → Holds store.old.places store.old.salt store.old.words.now xs → Slot (slot_at store.old.places store.old.words.now edge.slot) → Walked store.old.places store.old.salt store.old.words.now path.now.len path.now.bits edge.slot → Walked store.old.places store.old.salt store.old.words.now l us edge.above → is_data (stored_at store.old.places store.old.words.now edge.above).rec ≡ false → Holds store.old.places store.old.salt store.new.words.now (without (path_in path.now.len path.now.bits) (updated (node (path_in l us) (with_child (children_of (stored_at store.old.places store.old.words.now edge.above).rec) (side_number edge.side) (present (path_in path.now.len path.now.bits) (merkle_hash (stored_at store.old.places store.old.words.now edge.slot).rec) false))) xs)) }
 {
@@ -49,6 +50,7 @@ pub fn evict_merkle(store: &mut Store<'_>, path: &Path, edge: Edge)
 // The node above knows the record, with hash 0, unless it knew it before.
 fn link(store: &mut Store<'_>, path: &Path, adding: &Adding)
     requires { adding.now.above < store.old.places }
+    ensures same { store.new.words.ghost_name ≡ store.old.words.ghost_name }
     ensures frame { Frame store.old store.new }
     ensures linked { (xs : List Stored) (l : ℕ) (us : List ℕ) → Holds store.old.places store.old.salt store.old.words.now xs → Walked store.old.places store.old.salt store.old.words.now l us adding.now.above → is_data (stored_at store.old.places store.old.words.now adding.now.above).rec ≡ false → Holds store.old.places store.old.salt store.new.words.now (after_link adding.now.way (node (path_in l us) (with_child (children_of (stored_at store.old.places store.old.words.now adding.now.above).rec) (side_number adding.now.side) (present (path_in path.now.len path.now.bits) 0 false))) xs) }
 {
@@ -65,6 +67,7 @@ fn link(store: &mut Store<'_>, path: &Path, adding: &Adding)
 // A record that came with its hash keeps it.
 fn keep_hash(store: &mut Store<'_>, i: usize, way: &Way)
     requires { i < store.old.places }
+    ensures same { store.new.words.ghost_name ≡ store.old.words.ghost_name }
     ensures frame { Frame store.old store.new }
     ensures kept { (xs : List Stored) (x : Stored) → Added store.old.places store.old.salt store.old.words.now xs x i → OwnHash way.now (merkle_hash x.rec) → Holds store.old.places store.old.salt store.new.words.now (x ∷ xs) }
 {
@@ -97,6 +100,7 @@ fn with_next<'a>(path: &Path, contents: Contents<'a>, way: &Way) -> Contents<'a>
 pub fn add_merkle(store: &mut Store<'_>, path: &Path, contents: Contents<'_>, adding: &Adding)
     requires short { IsShort contents }
     requires above { adding.now.above < store.old.places }
+    ensures same { store.new.words.ghost_name ≡ store.old.words.ghost_name }
     ensures frame { Frame store.old store.new }
     ensures added { (xs : List Stored) (l : ℕ) (us : List ℕ) → Holds store.old.places store.old.salt store.old.words.now xs → length xs < store.old.places → IsNamed path.now contents.entry → Walked store.old.places store.old.salt store.old.words.now l us adding.now.above → is_data (stored_at store.old.places store.old.words.now adding.now.above).rec ≡ false → OwnHash adding.now.way (merkle_hash (record_meant path.now contents.entry)) → Holds store.old.places store.old.salt store.new.words.now (record { rec = contents_after adding.now.way path.now contents.entry; by_merkle = true } ∷ after_link adding.now.way (node (path_in l us) (with_child (children_of (stored_at store.old.places store.old.words.now adding.now.above).rec) (side_number adding.now.side) (present (path_in path.now.len path.now.bits) 0 false))) xs) }
 {

@@ -2,3 +2,4 @@ pub mod Members
 pub mod Held
 pub mod Edits
 pub mod Opened
+pub mod Lent

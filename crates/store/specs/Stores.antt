@@ -15,6 +15,6 @@ stored_of s i = stored_at s.places s.words.now i
 abbrev pub Contains : StoreRef → List Stored → Type 0
 Contains s xs = Holds s.places s.salt s.words.now xs
 
--- what writing leaves as it was: which words are lent, for how many records, and the salt
+-- what writing leaves as it was: how many records there is room for, and the salt
 abbrev pub Frame : Store → Store → Type 0
-Frame old new = (new.words.ghost_name ≡ old.words.ghost_name) × (new.places ≡ old.places) × (new.salt ≡ old.salt)
+Frame old new = (new.places ≡ old.places) × (new.salt ≡ old.salt)

@@ -261,6 +261,7 @@ impl<'a> Store<'a> {
 
     // Nothing is stored yet, whatever the words were.
     pub fn open(&mut self)
+        ensures same { self.new.words.ghost_name ≡ self.old.words.ghost_name }
         ensures frame { Frame self.old self.new }
         ensures none { (salt : ℕ) → Holds self.new.places salt self.new.words.now [] }
     {
@@ -271,6 +272,7 @@ impl<'a> Store<'a> {
     // Removes the record in slot `i`, where a path was found.
     pub fn remove(&mut self, i: usize)
         requires { i < self.old.places }
+        ensures same { self.new.words.ghost_name ≡ self.old.words.ghost_name }
         ensures frame { Frame self.old self.new }
         ensures without { (xs : List Stored) (k : ℕ) (ws : List ℕ) → Holds self.old.places self.old.salt self.old.words.now xs → Walked self.old.places self.old.salt self.old.words.now k ws i → Holds self.old.places self.old.salt self.new.words.now (without (path_in k ws) xs) }
     {
@@ -281,9 +283,10 @@ impl<'a> Store<'a> {
     // Adds a record at a path. Its slot; none if the store is full, and then nothing is written.
     pub fn add(&mut self, path: &Path, contents: Contents<'_>, by_merkle: bool) -> Option<usize>
         requires { IsShort contents }
+        ensures same { self.new.words.ghost_name ≡ self.old.words.ghost_name }
         ensures frame { Frame self.old self.new }
         ensures within { IfSome result (λ i. i < self.old.places) }
-        ensures same { result ≡ None → self.new.words.now ≡ self.old.words.now }
+        ensures unchanged { result ≡ None → self.new.words.now ≡ self.old.words.now }
         ensures full { (xs : List Stored) → Holds self.old.places self.old.salt self.old.words.now xs → nat_le self.old.places (place_or self.old.places result) ≡ nat_le self.old.places (length xs) }
         ensures stored { (xs : List Stored) → Holds self.old.places self.old.salt self.old.words.now xs → IsNamed path.now contents.entry → IfSome result (λ i. Added self.old.places self.old.salt self.new.words.now xs (record { rec = record_meant path.now contents.entry; by_merkle = by_merkle }) i) }
     {
@@ -299,6 +302,7 @@ impl<'a> Store<'a> {
     // Writes the child pointer on a side of the node in slot `i`, where a path was found.
     pub fn set_child(&mut self, i: usize, side: Side, child: &Child)
         requires { i < self.old.places }
+        ensures same { self.new.words.ghost_name ≡ self.old.words.ghost_name }
         ensures frame { Frame self.old self.new }
         ensures stay { (salt : ℕ) (k : ℕ) (ws : List ℕ) (r : ℕ) → Walked self.old.places salt self.old.words.now k ws r → Walked self.old.places salt self.new.words.now k ws r }
         ensures stored { (salt : ℕ) (xs : List Stored) (k : ℕ) (ws : List ℕ) → Holds self.old.places salt self.old.words.now xs → Walked self.old.places salt self.old.words.now k ws i → is_data (stored_at self.old.places self.old.words.now i).rec ≡ false → Holds self.old.places salt self.new.words.now (updated (node (path_in k ws) (with_child (children_of (stored_at self.old.places self.old.words.now i).rec) (side_number side) (child_meant child.now))) xs) }
@@ -311,6 +315,7 @@ impl<'a> Store<'a> {
     pub fn set_value(&mut self, i: usize, value: &[u8])
         requires within { i < self.old.places }
         requires value { length value.now ≤ 1024 }
+        ensures same { self.new.words.ghost_name ≡ self.old.words.ghost_name }
         ensures frame { Frame self.old self.new }
         ensures stay { (salt : ℕ) (k : ℕ) (ws : List ℕ) (r : ℕ) → Walked self.old.places salt self.old.words.now k ws r → Walked self.old.places salt self.new.words.now k ws r }
         ensures stored { (salt : ℕ) (xs : List Stored) (k : ℕ) (ws : List ℕ) → Holds self.old.places salt self.old.words.now xs → Walked self.old.places salt self.old.words.now k ws i → is_data (stored_at self.old.places self.old.words.now i).rec ≡ true → Holds self.old.places salt self.new.words.now (updated (data_record (slot_key (slot_at self.old.places self.old.words.now i)) (Some value.now)) xs) }
@@ -322,6 +327,7 @@ impl<'a> Store<'a> {
     // Keeps the hash of the record in slot `i`, where a path was found: it is known until the record is changed.
     pub fn set_hash(&mut self, i: usize, hash: &[u64; 4])
         requires { i < self.old.places }
+        ensures same { self.new.words.ghost_name ≡ self.old.words.ghost_name }
         ensures frame { Frame self.old self.new }
         ensures stay { (salt : ℕ) (k : ℕ) (ws : List ℕ) (r : ℕ) → Walked self.old.places salt self.old.words.now k ws r → Walked self.old.places salt self.new.words.now k ws r }
         ensures stored { (salt : ℕ) (xs : List Stored) (k : ℕ) (ws : List ℕ) → Holds self.old.places salt self.old.words.now xs → Walked self.old.places salt self.old.words.now k ws i → number_in hash.now ≡ merkle_hash (stored_at self.old.places self.old.words.now i).rec → Holds self.old.places salt self.new.words.now xs }

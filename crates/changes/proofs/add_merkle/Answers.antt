@@ -19,8 +19,8 @@ returns-in-Some-clause-added c = λ xs l us H room named W nk own.
     let L = c.link.ensures.linked xs l us H W nk in
     let F = c.link.ensures.frame in
     let G = c.in-Some.ensures.frame in
-    let stored = rw (F.1, F.2) at c.in-Some.ensures.stored in
-    let kept = rw (G.1, G.2, F.1, F.2) at c.keep_hash.ensures.kept in
+    let stored = rw (F.0, F.1) at c.in-Some.ensures.stored in
+    let kept = rw (G.0, G.1, F.0, F.1) at c.keep_hash.ensures.kept in
     kept ys _
     (subst (λ (r : Record). Added n salt c.add.new.self.words.now ys (record { rec = r; by_merkle = true }) c.in-Some.i) c.with_next.ensures.after (stored ys L (c.with_next.ensures.named named)))
     (own_after c.args.adding.now.way c.args.path.now c.args.contents own)
@@ -30,6 +30,6 @@ pub returns-in_default-clause-added : goal.returns-in_default-clause-added
 returns-in_default-clause-added c = λ xs l us H room named W nk own.
     let n = c.args.store.now.places in
     let F = c.link.ensures.frame in
-    let full = rw (F.1, F.2) at c.in_default.ensures.full in
+    let full = rw (F.0, F.1) at c.in_default.ensures.full in
     let found = room_found n n _ (full _ (c.link.ensures.linked xs l us H W nk)) (subst (λ (k : ℕ). k < n) (sym (length_link c.args.adding.now.way _ xs)) room) in
     absurd (omega arith)

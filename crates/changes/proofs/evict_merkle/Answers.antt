@@ -15,6 +15,6 @@ returns-clause-evicted c = λ xs l us H s Wp Wq nk.
     let above = (stored_at n m c.args.edge.above).rec in
     let F = c.set_child.ensures.frame in
     let hash = rw (c.as_ref.ensures.words, c.as_ref.ensures.places) at c.merkle_hash_of-hash.ensures in
-    let out = rw (F.1, F.2) at c.remove.ensures.without in
+    let out = rw (F.0, F.1) at c.remove.ensures.without in
     subst (λ (h : ℕ). Holds n salt c.remove.new.self.words.now (without p (updated (node (path_in l us) (with_child (children_of above) (side_number c.args.edge.side) (present p h false))) xs))) (hash s)
     (out _ _ _ (c.set_child.ensures.stored salt xs l us H Wq nk) (c.set_child.ensures.stay salt _ _ _ Wp))

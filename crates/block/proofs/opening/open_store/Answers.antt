@@ -1,22 +1,41 @@
-use Rattle.std.proofs.Common.{◌<◌, true, false, [], ◌∷◌, sym, ◌∙◌, subst, arith}
+use Rattle.std.proofs.Common.{◌≡◌, ℕ, ◌≤◌, true, false, List, [], ◌∷◌, Option, Some, None, IfSome, leb, sym, ◌∙◌, subst, arith, rules}
 use Rattle.std.proofs.lemmas.Bool.{leb-false, lt-leb}
 use Rattle.model.specs.Records.{Path, pick, node, no_children}
-use Rattle.store.specs.Holding.{Holds}
+use Rattle.index.specs.Chains.{place_or}
+use Rattle.model.specs.Verifier.{Stored}
+use Rattle.store.specs.Holding.{Holds, Added}
+use Rattle.store.proofs.Lent.{lent_holds}
 use Rattle.block.proofs.Opened.{first_store}
 use Rattle.block.proofs.opening.open_store.Goals as goal
+
+-- there is room for one
+room : (n salt : ℕ) (m : List ℕ) (x : Stored) (o : Option ℕ) → 2 ≤ n → leb n (place_or n o) ≡ leb n 0 → IfSome o (λ i. Added n salt m [] x i) → Holds n salt m (x ∷ [])
+room n salt m x (Some i) few e a = a.holds
+room n salt m x None few e a = absurd (let l = leb-false n n (e ∙ lt-leb n 0 (omega arith)) in omega arith)
 
 pub returns-then-has_root : goal.returns-then-has_root
 unfolding pick
 returns-then-has_root c = λ t e.
     let n = c.args.n in
     let salt = c.args.salt in
-    let m = c.add_node.new.mem in
-    let none = c.«open».ensures salt in
-    let free : c.add_node.result < n = leb-false n c.add_node.result (c.add_node.ensures.full [] none ∙ lt-leb n 0 (omega arith)) in
-    let added = c.add_node.ensures.stored [] none free in
-    first_store n salt t m true (sym c.if-has_root.true ∙ e)
-    (subst (λ (p : Path). Holds n salt m (record { rec = node p no_children; by_merkle = true } ∷ [])) c.root.ensures.path added.holds)
+    let m = c.add.new.self.words.now in
+    let S = c.new-store.ensures in
+    let F = c.«open».ensures.frame in
+    let none = rw (F.0, S.places) at (c.«open».ensures.none salt) in
+    let full = rw (F.0, F.1, S.places, S.salt) at c.add.ensures.full in
+    let stored = rw (F.0, F.1, S.places, S.salt) at c.add.ensures.stored in
+    lent_holds n salt _ m _ (search rules)
+    (first_store n salt t m true (sym c.if-has_root.true ∙ e)
+    (subst (λ (p : Path). Holds n salt m (record { rec = node p no_children; by_merkle = true } ∷ [])) c.root.ensures.path
+    (room n salt m _ c.add.result c.requires.few (full [] none) (stored [] none tt))))
 
 pub returns-else-has_root : goal.returns-else-has_root
 unfolding pick
-returns-else-has_root c = λ t e. first_store c.args.n c.args.salt t c.«open».new.mem false (sym c.if-has_root.false ∙ e) (c.«open».ensures c.args.salt)
+returns-else-has_root c = λ t e.
+    let n = c.args.n in
+    let salt = c.args.salt in
+    let m = c.«open».new.self.words.now in
+    let S = c.new-store.ensures in
+    let F = c.«open».ensures.frame in
+    let none = rw (F.0, S.places) at (c.«open».ensures.none salt) in
+    lent_holds n salt _ m _ (search rules) (first_store n salt t m false (sym c.if-has_root.false ∙ e) none)
