@@ -5,4 +5,4 @@ mod calls;
 mod merkle;
 
 pub use calls::{get, set};
-pub use merkle::{add_merkle_data, add_merkle_node, evict_merkle};
+pub use merkle::{add_merkle, evict_merkle};

@@ -1,93 +1,74 @@
 // Entries by Merkle.
-ghost use Rattle.std.specs.Prelude.{◌≡◌, ℕ, ◌<◌, ◌≤◌, false, ◌&&◌, length, IfSome, is_ok};
-ghost use Rattle.std.specs.Option.{option_map};
-ghost use Rattle.model.specs.Records.{data_record, node, is_absent, merkle_bytes as bytes_of};
+ghost use Rattle.std.specs.Prelude.{◌≡◌, ℕ, ◌<◌, ◌≤◌, false, ◌&&◌, length, is_ok};
+ghost use Rattle.model.specs.Records.{is_absent, merkle_bytes as bytes_of};
 ghost use Rattle.model.specs.Verifier.{Verifier, verifier_step, add_merkle, evict_merkle};
 ghost use Rattle.path.specs.Packs.{path_in};
-ghost use Rattle.slot.specs.Meant.{child_meant};
+ghost use Rattle.slot.specs.Meant.{child_meant, record_meant, IsNamed, IsShort};
 ghost use Rattle.block.specs.Blocks.{block_words, Keeps, Taken};
+ghost use Rattle.conditions.specs.Adds.{Told};
 
-use block::{SALT, STORE};
-use conditions::{Failure, may_add_merkle, may_evict_merkle};
+use block::{SALT, STORE, store};
+use conditions::{Candidate, Failure, may_add_merkle, may_evict_merkle};
 use path::Path;
-use record::key_path;
+use slot::Contents;
 use slot::child::Child;
+use store::Store;
 
-// A key with its value, if it has one, is added by Merkle, under the node at `above`. There is room for it.
-pub fn add_merkle_data(
-    block: &mut [u64],
-    n: usize,
-    key: &[u8],
-    value: Option<&[u8]>,
-    merkle_bytes: &[u8],
-    above: &Path,
-) -> Result<(), Failure>
-    requires few { 2 ≤ n }
-    requires room { length block.old ≡ block_words n }
-    requires key { length key.now ≤ 64 }
-    requires value { IfSome value (λ v. length v.now ≤ 1024) }
-    ensures same { is_ok result ≡ false → block.new ≡ block.old }
-    ensures step { (t : ℕ) (v : Verifier) → Keeps n block.old v → length v.store < n → merkle_bytes.now ≡ bytes_of (data_record key.now (option_map (λ x. x.now) value.entry)) → Taken n block.new result (verifier_step t v (add_merkle (data_record key.now (option_map (λ x. x.now) value.entry)) (path_in above.now.len above.now.bits))) }
-{
-    let path = key_path(key);
-    let salt = block[SALT];
-    let past = STORE + 192 * n;
-    let adding = may_add_merkle(
-        &block[STORE..past],
-        n,
-        salt,
-        &path,
-        above,
-        value.is_none(),
-        false,
-        merkle_bytes,
-    )?;
-    changes::add_merkle_data(&mut block[STORE..past], n, salt, &path, key, value, &adding);
-    Ok(())
-}
-
-// A node is added by Merkle, under the node at `above`. There is room for it.
-pub fn add_merkle_node(
+// A record is added by Merkle, under the node at `above`. There is room for it.
+pub fn add_merkle(
     block: &mut [u64],
     n: usize,
     path: &Path,
-    left: &Child,
-    right: &Child,
+    contents: Contents<'_>,
     merkle_bytes: &[u8],
     above: &Path,
 ) -> Result<(), Failure>
     requires few { 2 ≤ n }
     requires room { length block.old ≡ block_words n }
+    requires short { IsShort contents }
     ensures same { is_ok result ≡ false → block.new ≡ block.old }
-    ensures step { (t : ℕ) (v : Verifier) → Keeps n block.old v → length v.store < n → merkle_bytes.now ≡ bytes_of (node (path_in path.now.len path.now.bits) (record { left = child_meant left.now; right = child_meant right.now })) → Taken n block.new result (verifier_step t v (add_merkle (node (path_in path.now.len path.now.bits) (record { left = child_meant left.now; right = child_meant right.now })) (path_in above.now.len above.now.bits))) }
+    ensures step { (t : ℕ) (v : Verifier) → Keeps n block.old v → length v.store < n → IsNamed path.now contents.entry → merkle_bytes.now ≡ bytes_of (record_meant path.now contents.entry) → Taken n block.new result (verifier_step t v (add_merkle (record_meant path.now contents.entry) (path_in above.now.len above.now.bits))) }
 {
+    let candidate = candidate(path, contents, merkle_bytes);
+    let adding = may_add_merkle(store(block, n), candidate, above)?;
     let salt = block[SALT];
-    let past = STORE + 192 * n;
-    let adding = may_add_merkle(
-        &block[STORE..past],
-        n,
-        salt,
-        path,
-        above,
-        are_absent(left, right),
-        true,
-        merkle_bytes,
-    )?;
-    changes::add_merkle_node(&mut block[STORE..past], n, salt, path, left, right, &adding);
+    let (_, words) = block.split_at_mut(STORE);
+    let mut store = Store::new(words, n, salt);
+    changes::add_merkle(&mut store, path, contents, &adding);
     Ok(())
+}
+
+// What is told of a record that is to be added.
+fn candidate<'a>(path: &Path, contents: Contents<'_>, merkle_bytes: &'a [u8]) -> Candidate<'a>
+    ensures { IsNamed path.now contents.entry → merkle_bytes.now ≡ bytes_of (record_meant path.now contents.entry) → Told (record_meant path.now contents.entry) result }
+{
+    match contents {
+        Contents::Node(left, right) => Candidate {
+            path: *path,
+            is_initial: are_absent(&left, &right),
+            of_node: true,
+            merkle_bytes,
+        },
+        Contents::Data(_, value) => Candidate {
+            path: *path,
+            is_initial: value.is_none(),
+            of_node: false,
+            merkle_bytes,
+        },
+    }
 }
 
 // Are there no children?
 fn are_absent(left: &Child, right: &Child) -> bool
     ensures { result ≡ (is_absent (child_meant left.now) && is_absent (child_meant right.now)) }
 {
-    let Child::Absent = left else {
-        return false;
-    };
-    let Child::Absent = right else {
-        return false;
-    };
-    true
+    is_child_absent(left) && is_child_absent(right)
+}
+
+fn is_child_absent(child: &Child) -> bool
+    ensures { result ≡ is_absent (child_meant child.now) }
+{
+    matches!(child, Child::Absent)
 }
 
 // What is at `path` is evicted by Merkle, under the node at `above`.
@@ -97,9 +78,10 @@ pub fn evict_merkle(block: &mut [u64], n: usize, path: &Path, above: &Path) -> R
     ensures same { is_ok result ≡ false → block.new ≡ block.old }
     ensures step { (t : ℕ) (v : Verifier) → Keeps n block.old v → Taken n block.new result (verifier_step t v (evict_merkle (path_in path.now.len path.now.bits) (path_in above.now.len above.now.bits))) }
 {
+    let edge = may_evict_merkle(store(block, n), path, above)?;
     let salt = block[SALT];
-    let past = STORE + 192 * n;
-    let edge = may_evict_merkle(&block[STORE..past], n, salt, path, above)?;
-    changes::evict_merkle(&mut block[STORE..past], n, salt, path, edge);
+    let (_, words) = block.split_at_mut(STORE);
+    let mut store = Store::new(words, n, salt);
+    changes::evict_merkle(&mut store, path, edge);
     Ok(())
 }
