@@ -5,12 +5,13 @@ use Rattle.model.specs.Verifier.{Stored, Timestamp, Verifier, fails, find, updat
 use Rattle.store.specs.Holding.{stored_at, Walked}
 use Rattle.conditions.specs.declared.parts.Failure.{Failure}
 use Rattle.blum_conditions.specs.declared.links.Link.{Link}
+use Rattle.path.specs.Sides.{side_number}
 use Rattle.slot.specs.Layout.{number_in}
 
--- the node's slot is within, and a walk leads to it
+-- the node's slot is within
 abbrev pub LinkWithin : ℕ → Result Link Failure → Type 0
 LinkWithin n (Err f) = Unit {0}
-LinkWithin n (Ok k) = (k.above < n) × (k.side < 2)
+LinkWithin n (Ok k) = k.above < n
 
 abbrev pub LinkLed : ℕ → ℕ → List ℕ → ℕ → List ℕ → Result Link Failure → Type 0
 LinkLed n salt m l us (Err f) = Unit {0}
@@ -18,7 +19,7 @@ LinkLed n salt m l us (Ok k) = Walked n salt m l us k.above
 
 -- the store where the node points at the path as evicted by Blum, with the hash that it knew
 abbrev pub marked : ℕ → List ℕ → Path → Path → Link → List Stored → List Stored
-marked n m p q k xs = updated (node q (with_child (children_of (stored_at n m k.above).rec) k.side (present p (number_in k.hash) true))) xs
+marked n m p q k xs = updated (node q (with_child (children_of (stored_at n m k.above).rec) (side_number k.side) (present p (number_in k.hash) true))) xs
 
 -- the step is then an eviction from that store
 pub record Links (n : ℕ) (m : List ℕ) (v : Verifier) (p q : Path) (k : Link) : Type 0 where

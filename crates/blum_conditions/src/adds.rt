@@ -7,10 +7,9 @@ ghost use Rattle.path.specs.Times.{timestamp_of};
 ghost use Rattle.block.specs.Blocks.{block_words, Keeps};
 ghost use Rattle.blum_conditions.specs.Adds.{MayAdd};
 
-use block::{SALT, STORE, done};
+use block::{done, store};
 use conditions::Failure;
 use path::{Path, Timestamp};
-use store::find_path;
 
 // May a record with this path be added by Blum, evicted at this timestamp? The timestamp just after it.
 pub fn may_add_blum(
@@ -26,8 +25,7 @@ pub fn may_add_blum(
     if path.len == 0 {
         return Err(Failure::IsRoot);
     }
-    let i = find_path(&block[STORE..STORE + 192 * n], n, block[SALT], path);
-    if i < n {
+    if store(block, n).find(path).is_some() {
         return Err(Failure::AlreadyStored);
     }
     if timestamp.epoch < done(block) {

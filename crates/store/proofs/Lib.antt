@@ -3,3 +3,4 @@ pub mod Held
 pub mod Edits
 pub mod Opened
 pub mod Lent
+pub mod Asked

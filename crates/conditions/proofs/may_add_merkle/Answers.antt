@@ -9,16 +9,9 @@ use Rattle.index.specs.Chains.{place_or}
 use Rattle.store.specs.Holding.{stored_at, Found}
 use Rattle.store.specs.Stores.{stored_of}
 use Rattle.conditions.specs.Ways.{added_by}
+use Rattle.store.proofs.Asked.{was_found, not_found}
 use Rattle.conditions.proofs.Added.{no_above, above_is_data, not_under, stored_already, by_pointer}
 use Rattle.conditions.proofs.may_add_merkle.Goals as goal
-
-was_found : (n : ℕ) (m : List ℕ) (ss : List Stored) (p : Path) (o : Option ℕ) → true ≡ is_some o → IfSome o (λ i. i < n) → Found n m ss p (place_or n o) → find p ss ≡ stored_at n m (place_or n o) ∷ []
-was_found n m ss p (Some i) e w f = f.some w
-was_found n m ss p None e w f = absurd (false≢true (sym e))
-
-not_found : (n : ℕ) (m : List ℕ) (ss : List Stored) (p : Path) (o : Option ℕ) → false ≡ is_some o → Found n m ss p (place_or n o) → find p ss ≡ []
-not_found n m ss p (Some i) e f = absurd (false≢true e)
-not_found n m ss p None e f = f.none (omega arith)
 
 pub returns-in_default-clause-may : goal.returns-in_default-clause-may
 returns-in_default-clause-may c = λ t v x H w. no_above t v x _ ((c.in_default.ensures.found v.store H).none (omega arith))
