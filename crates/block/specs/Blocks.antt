@@ -6,7 +6,7 @@ use Rattle.model.specs.Records.{Path}
 use Rattle.model.specs.Verifier.{Timestamp, Verifier, Step, fails, goes}
 use Rattle.path.specs.Packs.{path_in, Packs}
 use Rattle.slot.specs.Parts.{part}
-use Rattle.store.specs.Holding.{Holds}
+use Rattle.store.specs.Holding.{Holds, Walked}
 use Rattle.store.specs.declared.StoreRef.{StoreRef}
 
 abbrev pub block_words : ℕ → ℕ
@@ -38,6 +38,10 @@ pub record Keeps (n : ℕ) (b : List ℕ) (v : Verifier) : Type 0 where
   pub last : last_in b ≡ v.last_evicted
   pub done : slice_index_or b 7 0 ≡ v.done
   pub store : Holds n (salt_in b) (store_in n b) v.store
+
+-- a walk in the block's store leads to slot i
+pub record Leads (n : ℕ) (b : List ℕ) (k : ℕ) (ws : List ℕ) (i : ℕ) : Type 0 where
+  pub walked : Walked n (salt_in b) (store_in n b) k ws i
 
 -- a verifier with another clock and last evicted path, or done with another number of epochs
 abbrev pub with_clock : Verifier → Timestamp → Path → Verifier

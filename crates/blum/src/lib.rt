@@ -5,6 +5,6 @@ mod adds;
 mod epochs;
 mod evicts;
 
-pub use adds::{add_blum_data, add_blum_node};
+pub use adds::add_blum;
 pub use epochs::{next_epoch, verify_epoch};
 pub use evicts::{evict_blum, evict_blum_merkle};

@@ -4,14 +4,10 @@ use Rattle.model.specs.Records.{Path, pick, node, no_children}
 use Rattle.index.specs.Chains.{place_or}
 use Rattle.model.specs.Verifier.{Stored}
 use Rattle.store.specs.Holding.{Holds, Added}
+use Rattle.store.proofs.Asked.{added_there}
 use Rattle.store.proofs.Lent.{lent_holds}
 use Rattle.block.proofs.Opened.{first_store}
 use Rattle.block.proofs.opening.open_store.Goals as goal
-
--- there is room for one
-room : (n salt : ℕ) (m : List ℕ) (x : Stored) (o : Option ℕ) → 2 ≤ n → leb n (place_or n o) ≡ leb n 0 → IfSome o (λ i. Added n salt m [] x i) → Holds n salt m (x ∷ [])
-room n salt m x (Some i) few e a = a.holds
-room n salt m x None few e a = absurd (let l = leb-false n n (e ∙ lt-leb n 0 (omega arith)) in omega arith)
 
 pub returns-then-has_root : goal.returns-then-has_root
 unfolding pick
@@ -27,7 +23,7 @@ returns-then-has_root c = λ t e.
     lent_holds n salt _ m _ (search rules)
     (first_store n salt t m true (sym c.if-has_root.true ∙ e)
     (subst (λ (p : Path). Holds n salt m (record { rec = node p no_children; by_merkle = true } ∷ [])) c.root.ensures.path
-    (room n salt m _ c.add.result c.requires.few (full [] none) (stored [] none tt))))
+    (added_there n salt m [] _ c.add.result (omega (arith, c.requires.few)) (full [] none) (stored [] none tt))))
 
 pub returns-else-has_root : goal.returns-else-has_root
 unfolding pick

@@ -4,7 +4,7 @@ use Rattle.model.specs.Verifier.{find, verifier_step}
 use Rattle.path.specs.Packs.{path_in}
 use Rattle.path.specs.Times.{timestamp_of}
 use Rattle.store.specs.Holding.{stored_at}
-use Rattle.verifier.specs.Keys.{lent_store}
+use Rattle.block.specs.Blocks.{store_in}
 use Rattle.blum.proofs.Stepped.{evict_fails, evicts, wrong}
 use Rattle.blum.proofs.evicts.evict_blum.Goals as goal
 
@@ -29,9 +29,9 @@ returns c = record {
       record {
         left = _;
         element = _;
-        step = evicts v p m false c.args.verifier (stored_at c.args.n (lent_store c.args.n c.args.block.now) c.in_ok-i.i) (find p v.store) a.some a.can;
-        keeps = c.leave.ensures v k c.in_ok-i.ensures.led;
+        step = evicts v p m false c.args.verifier (stored_at c.args.n (store_in c.args.n c.args.block.now) c.in_ok-i.i) (find p v.store) a.some a.can;
+        keeps = c.leave.ensures v k (record { walked = c.in_ok-i.ensures.led });
         when = refl;
-        hash = c.element_hash_of-hash.ensures a.slot;
+        hash = rw (c.store.ensures.words, c.store.ensures.places) at c.element_hash_of-hash.ensures a.slot;
       };
 }
