@@ -1,4 +1,3 @@
-pub mod Joined
 pub mod Eights
 pub mod Pointers
 pub mod Recorded

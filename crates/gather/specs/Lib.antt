@@ -1,1 +1,2 @@
-pub mod Wrote
+pub use Rattle.writer.specs.Wrote
+pub mod Gathered

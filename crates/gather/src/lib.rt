@@ -1,13 +1,16 @@
 // The bytes of stored records that are hashed, from the words of their slots.
 #![tactic(auto)]
 
-ghost use Rattle.std.specs.Prelude.{◌≡◌, ◌+◌, ◌*◌, ◌≤◌, [], ◌∷◌, length, take, ◌≢◌, slice_index};
-ghost use Rattle.model.specs.Records.{le_bytes, sized_bytes, pointer_bytes, merkle_bytes, record_bytes};
+ghost use Rattle.std.specs.Prelude.{◌≡◌, ◌+◌, ◌*◌, ◌≤◌, length, take, ◌≢◌, slice_index};
+ghost use Rattle.model.specs.Records.{sized_bytes, pointer_bytes, merkle_bytes, record_bytes};
 ghost use Rattle.path.specs.Packs.{path_in};
 ghost use Rattle.slot.specs.Layout.{slot_words, bytes_in, pointer_in, rec_in, PointerPacks, Slot};
-ghost use Rattle.gather.specs.Wrote.{Wrote};
+ghost use Rattle.writer.specs.Wrote.{Wrote};
+ghost use Rattle.writer.specs.Written.{Written};
+ghost use Rattle.gather.specs.Gathered.{Gathered};
 
 use record::bits_into;
+use writer::Writer;
 
 mod element;
 
@@ -18,124 +21,130 @@ pub const MERKLE_BYTES: usize = 1028;
 
 pub const RECORD_BYTES: usize = 1095;
 
-// Each function writes from `at` on, and tells where the next byte goes.
-
-fn byte_out(byte: u8, out: &mut [u8], at: usize) -> usize
-    requires room { at + 1 ≤ length out.old }
-    ensures end { result ≡ at + 1 }
-    ensures wrote { Wrote out.old at (byte ∷ []) out.new result }
-{
-    out[at] = byte;
-    at + 1
-}
-
-fn length_out(n: usize, out: &mut [u8], at: usize) -> usize
-    requires room { at + 2 ≤ length out.old }
-    ensures end { result ≡ at + 2 }
-    ensures wrote { Wrote out.old at (le_bytes 2 n) out.new result }
-{
-    let next = byte_out((n % 256) as u8, out, at);
-    byte_out((n / 256 % 256) as u8, out, next)
-}
-
 // The first `n` bytes in these words: eight at a time, and then what is left.
-fn bytes_out(words: &[u64], n: usize, out: &mut [u8], at: usize) -> usize
+fn bytes_into(words: &[u64], n: usize, w: &mut Writer)
     requires words { n ≤ 8 * length words.now }
-    requires room { at + n ≤ length out.old }
-    ensures end { result ≡ at + n }
-    ensures wrote { Wrote out.old at (take n (bytes_in words.now)) out.new result }
+    requires room { w.old.at + n ≤ length w.old.out.now }
+    ensures end { w.new.at ≡ w.old.at + n }
+    ensures wrote { Written w.old (take n (bytes_in words.now)) w.new }
 {
-    let whole = n / 8;
-    for j in 0..whole {
-        let k = at + 8 * j;
-        out[k..k + 8].copy_from_slice(&words[j].to_le_bytes());
+    w.numbers(&words[..n / 8]);
+    if n % 8 > 0 {
+        let last = words[n / 8].to_le_bytes();
+        w.bytes(&last[..n % 8]);
     }
-    for i in 8 * whole..n {
-        out[at + i] = ((words[i / 8] >> (8 * (i % 8))) % 256) as u8;
-    }
-    at + n
 }
 
 // The first `n` bytes in these words, with their length.
-fn sized_bytes_out(words: &[u64], n: usize, out: &mut [u8], at: usize) -> usize
+fn sized_bytes_into(words: &[u64], n: usize, w: &mut Writer)
     requires words { n ≤ 8 * length words.now }
-    requires room { at + (n + 2) ≤ length out.old }
-    ensures end { result ≡ at + (n + 2) }
-    ensures wrote { Wrote out.old at (sized_bytes (take n (bytes_in words.now))) out.new result }
+    requires room { w.old.at + (n + 2) ≤ length w.old.out.now }
+    ensures end { w.new.at ≡ w.old.at + (n + 2) }
+    ensures wrote { Written w.old (sized_bytes (take n (bytes_in words.now))) w.new }
 {
-    let next = length_out(n, out, at);
-    bytes_out(words, n, out, next)
+    w.length(n);
+    bytes_into(words, n, w);
 }
 
-// A path of `n` bits, with its length.
-fn sized_path_out(n: usize, bits: &[u64], out: &mut [u8], at: usize) -> usize
-    requires bits { n ≤ 64 * length bits.now }
-    requires room { at + (n + 2) ≤ length out.old }
-    ensures end { result ≡ at + (n + 2) }
-    ensures wrote { Wrote out.old at (sized_bytes (path_in n bits.now)) out.new result }
+// A path of `len` bits, with its length.
+fn sized_path_into(len: usize, bits: &[u64], w: &mut Writer)
+    requires bits { len ≤ 64 * length bits.now }
+    requires room { w.old.at + (len + 2) ≤ length w.old.out.now }
+    ensures end { w.new.at ≡ w.old.at + (len + 2) }
+    ensures wrote { Written w.old (sized_bytes (path_in len bits.now)) w.new }
 {
-    let next = length_out(n, out, at);
-    bits_into(n, bits, out, next);
-    next + n
+    w.length(len);
+    bits_into(len, bits, w);
 }
 
 // A child pointer from its ten words.
-fn pointer_out(pointer: &[u64], out: &mut [u8], at: usize) -> usize
+fn pointer_into(pointer: &[u64], w: &mut Writer)
     requires ten { length pointer.now ≡ 10 }
-    requires room { at + 292 ≤ length out.old }
-    ensures end { result ≤ at + 292 }
-    ensures wrote { PointerPacks pointer.now → Wrote out.old at (pointer_bytes (pointer_in pointer.now)) out.new result }
+    requires room { w.old.at + 292 ≤ length w.old.out.now }
+    ensures { Gathered (PointerPacks pointer.now) w.old (pointer_bytes (pointer_in pointer.now)) 292 w.new }
 {
     if pointer[0] == 0 {
-        return byte_out(0, out, at);
+        w.byte(0);
+        return;
     }
     let len = (pointer[1] as usize).min(256);
-    let tag = byte_out(1, out, at);
-    let by_blum = if pointer[0] == 2 { 1 } else { 0 };
-    let path = byte_out(by_blum, out, tag);
-    let hash = sized_path_out(len, &pointer[2..6], out, path);
-    bytes_out(&pointer[6..10], 32, out, hash)
+    w.byte(1);
+    w.byte(u8::from(pointer[0] == 2));
+    sized_path_into(len, &pointer[2..6], w);
+    w.numbers(&pointer[6..10]);
 }
 
 // What of a node is hashed.
-fn node_out(slot: &[u64], out: &mut [u8], at: usize) -> usize
+fn node_into(slot: &[u64], w: &mut Writer)
     requires size { length slot.now ≡ slot_words }
-    requires room { at + 585 ≤ length out.old }
-    ensures end { result ≤ at + 585 }
-    ensures wrote { Slot slot.now → slice_index slot.now 0 ≡ 0 → Wrote out.old at (merkle_bytes (rec_in slot.now)) out.new result }
+    requires room { w.old.at + 585 ≤ length w.old.out.now }
+    ensures { Gathered (Slot slot.now × (slice_index slot.now 0 ≡ 0)) w.old (merkle_bytes (rec_in slot.now)) 585 w.new }
 {
-    let left = byte_out(1, out, at);
-    let right = pointer_out(&slot[8..18], out, left);
-    pointer_out(&slot[18..28], out, right)
+    w.byte(1);
+    pointer_into(&slot[8..18], w);
+    pointer_into(&slot[18..28], w);
 }
 
 // What of a data record is hashed.
-fn data_out(slot: &[u64], out: &mut [u8], at: usize) -> usize
+fn data_into(slot: &[u64], w: &mut Writer)
     requires size { length slot.now ≡ slot_words }
-    requires room { at + 1028 ≤ length out.old }
-    ensures end { result ≤ at + 1028 }
-    ensures wrote { Slot slot.now → (slice_index slot.now 0 ≢ 0) → Wrote out.old at (merkle_bytes (rec_in slot.now)) out.new result }
+    requires room { w.old.at + 1028 ≤ length w.old.out.now }
+    ensures { Gathered (Slot slot.now × (slice_index slot.now 0 ≢ 0)) w.old (merkle_bytes (rec_in slot.now)) 1028 w.new }
 {
-    let value = byte_out(0, out, at);
+    w.byte(0);
     if slot[0] != 2 {
-        return byte_out(0, out, value);
+        w.byte(0);
+        return;
     }
     let len = (slot[17] as usize).min(1024);
-    let text = byte_out(1, out, value);
-    sized_bytes_out(&slot[18..146], len, out, text)
+    w.byte(1);
+    sized_bytes_into(&slot[18..146], len, w);
 }
 
 // What the Merkle hash of the record in a slot is taken over: all but its key or path.
+fn merkle_into(slot: &[u64], w: &mut Writer)
+    requires size { length slot.now ≡ slot_words }
+    requires room { w.old.at + 1028 ≤ length w.old.out.now }
+    ensures { Gathered (Slot slot.now) w.old (merkle_bytes (rec_in slot.now)) 1028 w.new }
+{
+    if slot[0] == 0 {
+        node_into(slot, w);
+    } else {
+        data_into(slot, w);
+    }
+}
+
+// The record in a slot, with its key or path.
+fn record_into(slot: &[u64], w: &mut Writer)
+    requires size { length slot.now ≡ slot_words }
+    requires room { w.old.at + 1095 ≤ length w.old.out.now }
+    ensures { Gathered (Slot slot.now) w.old (record_bytes (rec_in slot.now)) 1095 w.new }
+{
+    if slot[0] == 0 {
+        let len = (slot[2] as usize).min(256);
+        w.byte(1);
+        sized_path_into(len, &slot[3..7], w);
+        node_into(slot, w);
+    } else {
+        let len = (slot[8] as usize).min(64);
+        w.byte(0);
+        sized_bytes_into(&slot[9..17], len, w);
+        data_into(slot, w);
+    }
+}
+
+// Each function that is called from outside writes from `at` on, and tells where the next byte goes.
+
+// What the Merkle hash of the record in a slot is taken over.
 pub fn merkle_out(slot: &[u64], out: &mut [u8], at: usize) -> usize
     requires size { length slot.now ≡ slot_words }
     requires room { at + 1028 ≤ length out.old }
     ensures end { result ≤ at + 1028 }
     ensures wrote { Slot slot.now → Wrote out.old at (merkle_bytes (rec_in slot.now)) out.new result }
 {
-    if slot[0] == 0 {
-        return node_out(slot, out, at);
-    }
-    data_out(slot, out, at)
+    let mut w = Writer::new(out, at);
+    merkle_into(slot, &mut w);
+    w.at
 }
 
 // The record in a slot, with its key or path.
@@ -145,14 +154,7 @@ pub fn record_out(slot: &[u64], out: &mut [u8], at: usize) -> usize
     ensures end { result ≤ at + 1095 }
     ensures wrote { Slot slot.now → Wrote out.old at (record_bytes (rec_in slot.now)) out.new result }
 {
-    if slot[0] == 0 {
-        let path = byte_out(1, out, at);
-        let bits = (slot[2] as usize).min(256);
-        let rest = sized_path_out(bits, &slot[3..7], out, path);
-        return node_out(slot, out, rest);
-    }
-    let key = byte_out(0, out, at);
-    let len = (slot[8] as usize).min(64);
-    let rest = sized_bytes_out(&slot[9..17], len, out, key);
-    data_out(slot, out, rest)
+    let mut w = Writer::new(out, at);
+    record_into(slot, &mut w);
+    w.at
 }

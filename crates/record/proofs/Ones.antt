@@ -1,6 +1,6 @@
 -- Lists of bits: what are-bits says of their parts, and its test by the greatest.
-use Rattle.std.proofs.Common.{◌≡◌, ℕ, zero, suc, ◌+◌, ◌<◌, ◌≤◌, max, Bool, true, false, ◌&&◌, ltb, ◌⊎◌, List, [], ◌∷◌, ◌++◌, length, get_or, take, drop, replicate, sym, refl, ap, ◌∙◌, inl, inr, arith}
-use Rattle.std.proofs.lemmas.List.{drop_more}
+use Rattle.std.proofs.Common.{◌≡◌, ℕ, zero, suc, ◌<◌, ◌≤◌, max, Bool, true, false, ◌&&◌, ltb, ◌⊎◌, List, [], ◌∷◌, ◌++◌, get_or, take, drop, replicate, refl, ap, ◌∙◌, inl, inr, arith}
+use Rattle.std.specs.List.{fold}
 use Rattle.std.proofs.lemmas.Bool.{ltb-true, lt-ltb, le-ltb, and_parts, and_from, cases_lt}
 use Rattle.model.specs.Monitor.{are_bits}
 
@@ -36,19 +36,24 @@ bit_at [] i h = omega arith
 bit_at (x ∷ xs) zero h = ltb-true x 2 (and_parts (ltb x 2) (are_bits xs) h).0
 bit_at (x ∷ xs) (suc i) h = bit_at xs i (and_parts (ltb x 2) (are_bits xs) h).1
 
--- a loop that takes the greatest
-pub greatest_more : (xs : List ℕ) (i most : ℕ) → i < length xs → (ltb most 2 && are_bits (drop i xs)) ≡ (ltb (max most (get_or xs i 0)) 2 && are_bits (drop (i + 1) xs))
+-- the greatest tells
+greatest_from : (xs : List ℕ) (most : ℕ) → ltb (fold max most xs) 2 ≡ (ltb most 2 && are_bits xs)
 unfolding are_bits
-greatest_more xs i most h =
-    let x : ℕ = get_or xs i 0 in
-    ap (λ (ys : List ℕ). ltb most 2 && are_bits ys) (drop_more xs i 0 h)
-    ∙ (regroup (ltb most 2) (ltb x 2) (are_bits (drop (i + 1) xs)) ∙ ap (λ (b : Bool). b && are_bits (drop (i + 1) xs)) (sym (go (cases_lt most 2) (cases_lt x 2))))
+greatest_from [] most = and_true (ltb most 2)
   where
-    regroup : (a b c : Bool) → (a && (b && c)) ≡ ((a && b) && c)
+    and_true : (b : Bool) → b ≡ (b && true)
+    and_true true = refl
+    and_true false = refl
+greatest_from (x ∷ xs) most = greatest_from xs (max most x) ∙ (ap (λ (b : Bool). b && are_bits xs) (go (cases_lt most 2) (cases_lt x 2)) ∙ regroup (ltb most 2) (ltb x 2) (are_bits xs))
+  where
+    regroup : (a b c : Bool) → ((a && b) && c) ≡ (a && (b && c))
     regroup true b c = refl
     regroup false b c = refl
 
-    go : (most < 2) ⊎ (2 ≤ most) → (get_or xs i 0 < 2) ⊎ (2 ≤ get_or xs i 0) → ltb (max most (get_or xs i 0)) 2 ≡ (ltb most 2 && ltb (get_or xs i 0) 2)
-    go (inl a) (inl b) = rw (lt-ltb (max most (get_or xs i 0)) 2 (omega arith), lt-ltb most 2 a, lt-ltb (get_or xs i 0) 2 b) refl
-    go (inl a) (inr b) = rw (le-ltb (max most (get_or xs i 0)) 2 (omega arith), lt-ltb most 2 a, le-ltb (get_or xs i 0) 2 b) refl
-    go (inr a) b = rw (le-ltb (max most (get_or xs i 0)) 2 (omega arith), le-ltb most 2 a) refl
+    go : (most < 2) ⊎ (2 ≤ most) → (x < 2) ⊎ (2 ≤ x) → ltb (max most x) 2 ≡ (ltb most 2 && ltb x 2)
+    go (inl a) (inl b) = rw (lt-ltb (max most x) 2 (omega arith), lt-ltb most 2 a, lt-ltb x 2 b) refl
+    go (inl a) (inr b) = rw (le-ltb (max most x) 2 (omega arith), lt-ltb most 2 a, le-ltb x 2 b) refl
+    go (inr a) b = rw (le-ltb (max most x) 2 (omega arith), le-ltb most 2 a) refl
+
+pub greatest_tells : (xs : List ℕ) → ltb (fold max 0 xs) 2 ≡ are_bits xs
+greatest_tells xs = greatest_from xs 0

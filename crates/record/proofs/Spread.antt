@@ -1,17 +1,13 @@
--- The eight bits of a byte, spread over as many bytes by a product; what is written of them.
-use Rattle.std.proofs.Common.{◌≡◌, ℕ, zero, suc, ◌+◌, ◌-◌, ◌*◌, ◌/◌, ◌%◌, ◌^◌, ◌<◌, ◌≤◌, Bool, true, ◌&&◌, List, [], ◌∷◌, ◌++◌, length, get_or, take, drop, sym, refl, ap, ◌∙◌, subst, ap₂, inl, inr, append_assoc, mul_assoc, arith}
+-- The eight bits of a byte, spread over as many bytes by a product.
+use Rattle.std.proofs.Common.{◌≡◌, ℕ, zero, suc, ◌+◌, ◌-◌, ◌*◌, ◌/◌, ◌%◌, ◌^◌, ◌<◌, ◌≤◌, Bool, true, ◌&&◌, List, [], ◌∷◌, length, get_or, take, drop, sym, refl, ap, ◌∙◌, ap₂, inl, inr, mul_assoc, arith}
 use lib.Bits.{bit_and}
-use lib.Seq.{paste}
-use borrow.Rule.Slice.PartMut.{put_mid}
-use Rattle.std.proofs.lemmas.Nat.{div-add-mod', field_of, mod_below, pow-add, shr-shr}
-use Rattle.std.proofs.lemmas.List.Edits.{take-paste, drop-paste}
-use Rattle.std.proofs.lemmas.List.{drop-drop, ext_get_or, get_or-take, get_or-drop, length-take-le, length-drop, take_at, take-take}
+use Rattle.std.proofs.lemmas.Nat.{div-add-mod', field_of, pow-add, shr-shr}
+use Rattle.std.proofs.lemmas.List.{ext_get_or, get_or-take, get_or-drop, length-take-le, length-drop}
 use Rattle.std.proofs.lemmas.Bool.{and_parts, cases_eq}
 use Rattle.model.specs.Records.{bits, same_bytes}
 use Rattle.path.specs.Packs.{word_bits}
 use Rattle.path.proofs.Same.{same_true}
 use Rattle.path.proofs.Words.{get_d_bits, get_or_word_bits, length_bits, length_word_bits}
-use Rattle.record.proofs.Filled.{take_plus}
 
 -- a test of every number below n
 abbrev all_below : ℕ → (ℕ → Bool) → Bool
@@ -79,44 +75,3 @@ byte_bits ws j h =
         ∙ (ap (λ (y : ℕ). y % 2) (shr-shr w k (7 - i))
         ∙ (ap₂ (λ (a b : ℕ). get_or ws a 0 / 2 ^ b % 2) (sym q) r
         ∙ sym (get_or-take 8 (drop (8 * j) (word_bits ws)) i 0 l ∙ (get_or-drop (8 * j) (word_bits ws) i 0 ∙ get_or_word_bits ws (8 * j + i) (omega arith))))))
-
--- ---- what is written
-
-pub paste_eight : (d : List ℕ) (at : ℕ) (s : List ℕ) (i : ℕ) (ys : List ℕ) → at + i + 8 ≤ length d → i + 8 ≤ length s → ys ≡ take 8 (drop i s) →
-    put_mid (at + i) 8 (paste d at s i) ys ≡ paste d at s (i + 8)
-paste_eight d at s i ys h k e =
-    let a : take (at + i) (paste d at s i) ≡ take at d ++ take i s = take-paste d at s i (omega arith) (omega arith) in
-    let b : drop (at + i) (paste d at s i) ≡ drop (at + i) d = drop-paste d at s i (omega arith) (omega arith) in
-    let m : at + i + 8 ≡ at + (i + 8) = omega arith in
-    ap₂ (λ (x y : List ℕ). x ++ (ys ++ drop 8 y)) a b
-    ∙ (ap₂ (λ (x y : List ℕ). (take at d ++ take i s) ++ (x ++ y)) e (drop-drop 8 (at + i) d ∙ ap (λ (n : ℕ). drop n d) m)
-    ∙ (regroup (take at d) (take i s) (take 8 (drop i s)) (drop (at + (i + 8)) d)
-    ∙ ap (λ (x : List ℕ). (take at d ++ x) ++ drop (at + (i + 8)) d) (sym (take_plus i 8 s))))
-  where
-    regroup : (p q u v : List ℕ) → (p ++ q) ++ (u ++ v) ≡ (p ++ (q ++ u)) ++ v
-    regroup p q u v = simp append_assoc
-
-pub paste_taken : (d : List ℕ) (at : ℕ) (s : List ℕ) (n : ℕ) → paste d at s n ≡ paste d at (take n s) n
-paste_taken d at s n = ap (λ (x : List ℕ). (take at d ++ x) ++ drop (at + n) d) (sym (take-take n n s (omega arith)))
-
--- more of it over what is there already
-pub paste_over : (d : List ℕ) (at : ℕ) (s : List ℕ) (n m : ℕ) → at ≤ length d → n ≤ length s → n ≤ m → paste (paste d at s n) at s m ≡ paste d at s m
-paste_over d at s n m h k l = ap₂ (λ (x y : List ℕ). (x ++ take m s) ++ y) front back
-  where
-    e : List ℕ
-    e = paste d at s n
-
-    front : take at e ≡ take at d
-    front =
-        sym (take-take at (at + n) e (omega arith))
-        ∙ (ap (take at) (take-paste d at s n h k) ∙ take_at (take at d) (take n s) at (length-take-le at d h))
-
-    back : drop (at + m) e ≡ drop (at + m) d
-    back =
-        let q : at + n + (m - n) ≡ at + m = omega arith in
-        ap (λ (i : ℕ). drop i e) (sym q)
-        ∙ (sym (drop-drop (m - n) (at + n) e)
-        ∙ (ap (drop (m - n)) (drop-paste d at s n h k) ∙ (drop-drop (m - n) (at + n) d ∙ ap (λ (i : ℕ). drop i d) q)))
-
-pub word_bit : (ws : List ℕ) (i : ℕ) → i < 64 * length ws → get_or (word_bits ws) i 0 < 2
-word_bit ws i h = subst (λ (x : ℕ). x < 2) (sym (get_or_word_bits ws i h)) (mod_below (get_or ws (i / 64) 0 / 2 ^ (63 - i % 64)) 2 (omega arith))

@@ -1,7 +1,7 @@
 -- The bits of a digest, from limbs with their bytes turned round.
-use Rattle.std.proofs.Common.{◌≡◌, ℕ, zero, suc, ◌+◌, ◌-◌, ◌*◌, ◌/◌, ◌%◌, ◌<◌, List, [], ◌∷◌, ◌++◌, length, get_or, replicate, sym, refl, ap, ◌∙◌, append_assoc, arith}
+use Rattle.std.proofs.Common.{◌≡◌, ℕ, zero, suc, ◌+◌, ◌-◌, ◌*◌, ◌/◌, ◌%◌, ◌<◌, List, [], ◌∷◌, ◌++◌, length, get_or, replicate, sym, refl, ap, ◌∙◌, ap₂, append_assoc, arith}
 use Rattle.std.proofs.lemmas.Nat.{mod_below, shr-shr}
-use Rattle.std.proofs.lemmas.List.{take_all, drop_all, ext_get_or}
+use Rattle.std.proofs.lemmas.List.{take_all, drop_all}
 use Rattle.model.specs.Records.{bits, bits_of_bytes, le_bytes}
 use Rattle.path.specs.Packs.{word_bits, path_in, Packs}
 use Rattle.path.proofs.Words.{length_word_bits}
@@ -41,30 +41,15 @@ unfolding bits_of_bytes
 bits_of_append [] ys = refl
 bits_of_append (x ∷ xs) ys = ap (λ (l : List ℕ). bits 8 x ++ l) (bits_of_append xs ys) ∙ sym (append_assoc (bits 8 x) (bits_of_bytes xs) (bits_of_bytes ys))
 
-abbrev limb_bits : List ℕ → List ℕ
-limb_bits [] = []
-limb_bits (x ∷ xs) = bits_of_bytes (le_bytes 8 x) ++ limb_bits xs
-
-limbs_bits : (xs : List ℕ) → limb_bits xs ≡ bits_of_bytes (limbs_bytes xs)
-unfolding limbs_bytes bits_of_bytes
-limbs_bits [] = refl
-limbs_bits (x ∷ xs) = ap (λ (l : List ℕ). bits_of_bytes (le_bytes 8 x) ++ l) (limbs_bits xs) ∙ sym (bits_of_append (le_bytes 8 x) (limbs_bytes xs))
-
-four_items : (xs : List ℕ) → length xs ≡ 4 → xs ≡ get_or xs 0 0 ∷ (get_or xs 1 0 ∷ (get_or xs 2 0 ∷ (get_or xs 3 0 ∷ [])))
-four_items xs l = ext_get_or 0 xs _ l (λ i h. go i (omega arith))
-  where
-    go : (i : ℕ) → i < 4 → get_or xs i 0 ≡ get_or (get_or xs 0 0 ∷ (get_or xs 1 0 ∷ (get_or xs 2 0 ∷ (get_or xs 3 0 ∷ [])))) i 0
-    go zero h = refl
-    go (suc zero) h = refl
-    go (suc (suc zero)) h = refl
-    go (suc (suc (suc zero))) h = refl
-    go (suc (suc (suc (suc i)))) h = absurd (omega arith)
-
--- words with the bits of four limbs
-pub digest_bits : (xs : List ℕ) (a b c d : ℕ) → length xs ≡ 4 → bits 64 a ≡ bits_of_bytes (le_bytes 8 (get_or xs 0 0)) → bits 64 b ≡ bits_of_bytes (le_bytes 8 (get_or xs 1 0)) →
-    bits 64 c ≡ bits_of_bytes (le_bytes 8 (get_or xs 2 0)) → bits 64 d ≡ bits_of_bytes (le_bytes 8 (get_or xs 3 0)) → word_bits (a ∷ (b ∷ (c ∷ (d ∷ [])))) ≡ bits_of_bytes (limbs_bytes xs)
-unfolding word_bits
-digest_bits xs a b c d l p q r s = (λ i. p i ++ (q i ++ (r i ++ (s i ++ [])))) ∙ (ap limb_bits (sym (four_items xs l)) ∙ limbs_bits xs)
+-- words with the bits of limbs
+pub digest_bits : (ws xs : List ℕ) → length ws ≡ length xs → ((i : ℕ) → i < length xs → bits 64 (get_or ws i 0) ≡ bits_of_bytes (le_bytes 8 (get_or xs i 0))) →
+    word_bits ws ≡ bits_of_bytes (limbs_bytes xs)
+unfolding word_bits limbs_bytes bits_of_bytes
+digest_bits [] [] l h = refl
+digest_bits [] (x ∷ xs) l h = absurd (omega arith)
+digest_bits (w ∷ ws) [] l h = absurd (omega arith)
+digest_bits (w ∷ ws) (x ∷ xs) l h =
+    ap₂ (λ (x y : List ℕ). x ++ y) (h 0 (omega arith)) (digest_bits ws xs (omega arith) (λ i k. h (suc i) (omega arith))) ∙ sym (bits_of_append (le_bytes 8 x) (limbs_bytes xs))
 
 -- words that are all path
 pub whole_packs : (ws : List ℕ) → Packs (64 * length ws) ws

@@ -10,15 +10,9 @@ pub fn key_path(key: &[u8]) -> Path
     ensures path { path_in result.len result.bits ≡ key_path key.now }
     ensures len { result.len ≡ 256 }
 {
-    let limbs = sha256::digest(key);
     Path {
         len: 256,
-        bits: [
-            big_endian(limbs[0]),
-            big_endian(limbs[1]),
-            big_endian(limbs[2]),
-            big_endian(limbs[3]),
-        ],
+        bits: sha256::digest(key).map(big_endian),
     }
 }
 

@@ -5,16 +5,13 @@ ghost use Rattle.model.specs.Records.{bits};
 ghost use Rattle.path.specs.Packs.{path_in};
 
 use path::Path;
+use std::array;
 
 // Is each of these bytes 0 or 1? The greatest tells, and the compiler finds it many bytes at a time.
 pub fn are_bits(bytes: &[u8]) -> bool
     ensures { result ≡ are_bits bytes.now }
 {
-    let mut most = 0u8;
-    for b in bytes {
-        most = most.max(*b);
-    }
-    most < 2
+    bytes.iter().fold(0, |most, b| most.max(*b)) < 2
 }
 
 // Are these the bits of a path: each 0 or 1, and no more than a key's path has?
@@ -36,12 +33,7 @@ pub fn path_from_bits(bytes: &[u8]) -> Option<Path>
     let filled = fill(bytes);
     Some(Path {
         len: bytes.len(),
-        bits: [
-            pack_word(&filled[0..64]),
-            pack_word(&filled[64..128]),
-            pack_word(&filled[128..192]),
-            pack_word(&filled[192..256]),
-        ],
+        bits: array::from_fn(|i| pack_word(&filled[64 * i..64 * i + 64])),
     })
 }
 
@@ -50,9 +42,8 @@ fn fill(bytes: &[u8]) -> [u8; 256]
     requires { length bytes.now ≤ 256 }
     ensures { result ≡ bytes.now ++ replicate (256 - length bytes.now) 0 }
 {
-    let mut filled = [0u8; 256];
-    let n = bytes.len();
-    filled[0..n].copy_from_slice(bytes);
+    let mut filled = [0; 256];
+    filled[..bytes.len()].copy_from_slice(bytes);
     filled
 }
 
@@ -61,21 +52,17 @@ fn pack_word(bytes: &[u8]) -> u64
     requires { length bytes.now ≡ 64 }
     ensures { are_bits bytes.now ≡ true → bits 64 result ≡ bytes.now }
 {
-    let mut word = 0u64;
-    for j in 0..8usize {
-        word = (word << 8) | pack_byte(&bytes[8 * j..8 * j + 8]);
+    let mut word = 0;
+    for eight in bytes.as_chunks().0 {
+        word = (word << 8) | pack_byte(eight);
     }
     word
 }
 
 // Eight bits in as many bytes as a byte, by a product that moves the bit of each to its place in the highest byte.
-fn pack_byte(bytes: &[u8]) -> u64
-    requires { length bytes.now ≡ 8 }
+fn pack_byte(eight: &[u8; 8]) -> u64
     ensures byte { result < 256 }
-    ensures bits { are_bits bytes.now ≡ true → bits 8 result ≡ bytes.now }
+    ensures bits { are_bits eight.now ≡ true → bits 8 result ≡ eight.now }
 {
-    let eight = u64::from_le_bytes([
-        bytes[0], bytes[1], bytes[2], bytes[3], bytes[4], bytes[5], bytes[6], bytes[7],
-    ]);
-    eight.wrapping_mul(0x8040_2010_0804_0201) >> 56
+    u64::from_le_bytes(*eight).wrapping_mul(0x8040_2010_0804_0201) >> 56
 }

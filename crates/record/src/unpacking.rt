@@ -1,24 +1,24 @@
 // The bits of paths, into a byte for each.
 ghost use Rattle.std.specs.Prelude.{◌≡◌, ◌+◌, ◌*◌, ◌<◌, ◌≤◌, length, take, drop};
-ghost use Rattle.std.proofs.Math.Seq.{paste};
 ghost use Rattle.model.specs.Records.{bits};
 ghost use Rattle.path.specs.Packs.{path_in, word_bits};
+ghost use Rattle.writer.specs.Written.{Written};
 
-use path::bit_of;
+use writer::Writer;
 
-// Writes the bits of a path of `len` bits into `out`, from `at` on. Eight at a time, and then what is left.
-pub fn bits_into(len: usize, bits: &[u64], out: &mut [u8], at: usize)
+// Writes the bits of a path of `len` bits, eight at a time, and then what is left. The place of a byte in the words is what is counted.
+pub fn bits_into(len: usize, bits: &[u64], w: &mut Writer)
     requires words { len ≤ 64 * length bits.now }
-    requires room { at + len ≤ length out.old }
-    ensures { out.new ≡ paste out.old at (path_in len bits.now) len }
+    requires room { w.old.at + len ≤ length w.old.out.now }
+    ensures end { w.new.at ≡ w.old.at + len }
+    ensures wrote { Written w.old (path_in len bits.now) w.new }
 {
-    let whole = len / 8;
-    for j in 0..whole {
-        let k = at + 8 * j;
-        out[k..k + 8].copy_from_slice(&unpack_byte(byte_of(bits, j)));
+    for j in 0..len / 8 {
+        w.bytes(&unpack_byte(byte_of(bits, j)));
     }
-    for i in 8 * whole..len {
-        out[at + i] = bit_of(bits, i) as u8;
+    if len % 8 > 0 {
+        let last = unpack_byte(byte_of(bits, len / 8));
+        w.bytes(&last[..len % 8]);
     }
 }
 

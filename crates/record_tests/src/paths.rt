@@ -2,6 +2,7 @@
 use path::Path;
 use record::{bits_into, key_path, path_from_bits};
 use std::test::Fail;
+use writer::Writer;
 
 fn path(bytes: &[u8]) -> Result<Path, Fail> {
     match path_from_bits(bytes) {
@@ -36,7 +37,7 @@ fn both_ways(rt: HostRuntime) -> Result<(), Fail> {
     let bytes = [1u8, 0, 0, 1, 1, 1, 0, 1, 0, 1, 1];
     let p = path(&bytes)?;
     let mut out = [7u8; 13];
-    bits_into(11, &p.bits, &mut out, 1);
+    bits_into(11, &p.bits, &mut Writer::new(&mut out, 1));
     assert_eq!(rt; &out[1..12], bytes.as_slice());
     assert_eq!(rt; out[0], 7);
     assert_eq!(rt; out[12], 7);

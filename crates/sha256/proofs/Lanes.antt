@@ -1,10 +1,10 @@
 -- Vectors of four words, lane by lane.
-use Rattle.std.proofs.Common.{◌≡◌, ℕ, ◌+◌, ◌-◌, ◌*◌, ◌/◌, ◌%◌, ◌^◌, ◌<◌, ◌≤◌, List, [], ◌∷◌, ◌++◌, map, length, get_or, drop, sym, refl, ap, ◌∙◌, subst, ap₂, arith, w32, Fits}
+use Rattle.std.proofs.Common.{◌≡◌, ℕ, ◌+◌, ◌-◌, ◌*◌, ◌/◌, ◌%◌, ◌^◌, ◌<◌, List, [], ◌∷◌, ◌++◌, map, length, take, drop, sym, refl, ap, ◌∙◌, subst, ap₂, arith, w32, Fits}
 use lib.Bits.{bit_or, bit_xor}
-use lib.Lanes.{Each1, pick_l, zip2}
-use Rattle.std.proofs.lemmas.List.{drop_more, drop-drop}
+use lib.Lanes.{Each1, chunk, pick_l, zip2}
+use Rattle.std.proofs.lemmas.List.{drop-drop, length-drop, take_all}
 use Rattle.model.specs.Sha256.{add_32, extend_schedule, rotr, shr}
-use Rattle.sha256.specs.Parts.{add_words, round_constants, small_sigma_0, small_sigma_1}
+use Rattle.sha256.specs.Parts.{add_words, small_sigma_0, small_sigma_1}
 use Rattle.sha256.proofs.Bits.{lxor_three, rotr_is}
 
 -- what holds of four words holds of a vector of them
@@ -39,37 +39,20 @@ rotate_lanes_is n h =
     (zip2 (λ (a k : ℕ). a * 2 ^ k % 2 ^ 32) xs ((32 - n) ∷ ((32 - n) ∷ ((32 - n) ∷ ((32 - n) ∷ []))))) ≡ map (rotr n) xs)
     (λ p q r s fit. four_same (rotate_is n p h fit.0.fits) (rotate_is n q h fit.1.0.fits) (rotate_is n r h fit.1.1.0.fits) (rotate_is n s h fit.1.1.1.0.fits))
 
-add_words_none : (ks : List ℕ) → add_words ks [] ≡ []
+as_many : (ks ws : List ℕ) → zip2 (λ (a b : ℕ). add_32 a b) (take (length ws) ks) ws ≡ add_words ks ws
 unfolding add_words
-add_words_none [] = refl
-add_words_none (k ∷ ks) = refl
+as_many [] [] = refl
+as_many [] (w ∷ ws) = refl
+as_many (k ∷ ks) [] = refl
+as_many (k ∷ ks) (w ∷ ws) = ap (λ (xs : List ℕ). add_32 k w ∷ xs) (as_many ks ws)
 
-pub constants_long : length round_constants ≡ 64
-unfolding round_constants
-constants_long = refl
-
--- the constants from t on
-pub add_four_is : (t : ℕ) (ks : List ℕ) → t + 4 ≤ length ks → (ws : List ℕ) → length ws ≡ 4
-    → zip2 (λ (a b : ℕ). add_32 a b) (get_or ks t 0 ∷ (get_or ks (t + 1) 0 ∷ (get_or ks (t + 2) 0 ∷ (get_or ks (t + 3) 0 ∷ [])))) ws ≡ add_words (drop t ks) ws
-unfolding add_words
-add_four_is t ks h =
-    let h0 : t < length ks = omega arith in
-    let h1 : t + 1 < length ks = omega arith in
-    let h2 : t + 2 < length ks = omega arith in
-    let h3 : t + 3 < length ks = omega arith in
-    let e1 : t + 1 + 1 ≡ t + 2 = omega arith in
-    let e2 : t + 2 + 1 ≡ t + 3 = omega arith in
-    let d0 = drop_more ks t 0 h0 in
-    let d1 = drop_more ks (t + 1) 0 h1 in
-    let d2 = drop_more ks (t + 2) 0 h2 in
-    let d3 = drop_more ks (t + 3) 0 h3 in
-    let all : drop t ks ≡ get_or ks t 0 ∷ (get_or ks (t + 1) 0 ∷ (get_or ks (t + 2) 0 ∷ (get_or ks (t + 3) 0 ∷ drop (t + 3 + 1) ks))) = cc in
-    by_four
-    (λ (ws : List ℕ).
-    zip2 (λ (a b : ℕ). add_32 a b) (get_or ks t 0 ∷ (get_or ks (t + 1) 0 ∷ (get_or ks (t + 2) 0 ∷ (get_or ks (t + 3) 0 ∷ [])))) ws ≡ add_words (drop t ks) ws)
-    (λ p q r s.
-    ap (λ (xs : List ℕ). add_32 (get_or ks t 0) p ∷ (add_32 (get_or ks (t + 1) 0) q ∷ (add_32 (get_or ks (t + 2) 0) r ∷ (add_32 (get_or ks (t + 3) 0) s ∷ xs)))) (sym (add_words_none (drop (t + 3 + 1) ks)))
-    ∙ ap (λ (xs : List ℕ). add_words xs (p ∷ (q ∷ (r ∷ (s ∷ []))))) (sym all))
+-- the constants from t on, as from_slice takes four of them
+pub add_four_is : (t : ℕ) (ks ws : List ℕ) → length ws ≡ 4
+    → zip2 (λ (a b : ℕ). add_32 a b) (chunk 0 4 (take (length ks - t) (drop t ks))) ws ≡ add_words (drop t ks) ws
+add_four_is t ks ws l =
+    let n = length-drop t ks in
+    ap (λ (xs : List ℕ). zip2 (λ (a b : ℕ). add_32 a b) (take 4 xs) ws) (take_all (length ks - t) (drop t ks) (omega arith))
+    ∙ ap (λ (k : ℕ). zip2 (λ (a b : ℕ). add_32 a b) (take k (drop t ks)) ws) (sym l) ∙ as_many (drop t ks) ws
 
 -- constants and words, in two parts
 pub add_words_front : (ks xs ys : List ℕ) → add_words ks (xs ++ ys) ≡ add_words ks xs ++ add_words (drop (length xs) ks) ys

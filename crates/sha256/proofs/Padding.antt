@@ -2,7 +2,7 @@
 use Rattle.std.proofs.Common.{◌≡◌, ℕ, zero, suc, ◌+◌, ◌-◌, ◌*◌, ◌/◌, ◌%◌, ◌^◌, ◌<◌, ◌≤◌, List, [], ◌∷◌, ◌++◌, length, take, drop, set, replicate, sym, refl, ap, ◌∙◌, ap₂, append_assoc, mul_comm, suc-add, zero-add, add-one, arith}
 use borrow.Rule.Slice.PartMut.{post_of, put_mid}
 use lib.Pow.{mod-pow-add}
-use Rattle.std.proofs.lemmas.List.{length-drop, length-append, length-replicate, take_all, take_at, take_rest, take-append-le, replicate-append-replicate, drop-replicate, set_at, drop_at, drop-append-le, drop-drop, drop_all, append-nil}
+use Rattle.std.proofs.lemmas.List.{length-drop, length-append, length-replicate, take_all, take_at, take-append-le, replicate-append-replicate, drop-replicate, set_at, drop_at, drop-append-le, drop-drop, drop_all, append-nil}
 use Rattle.model.specs.Sha256.{State, be_bytes, block_count, compress, padded}
 use Rattle.sha256.specs.Parts.{add_states, bit_length_bytes, compress_block, final_state, initial_state, padding, round_constants}
 
@@ -59,9 +59,9 @@ compress_two s m p h k =
     cc
 
 -- one block more, as the code takes it
-pub compress_more : (j k : ℕ) (s t : State) (m : List ℕ) → s ≡ compress j initial_state m → t ≡ compress_block s (take k (drop (64 * j) m)) → k ≡ 64
+pub compress_more : (j : ℕ) (s t : State) (m : List ℕ) → s ≡ compress j initial_state m → t ≡ compress_block s (take 64 (drop (64 * j) m))
     → t ≡ compress (j + 1) initial_state m
-compress_more j k s t m a b e =
+compress_more j s t m a b =
     let f = compress_next j initial_state m in
     let o = add-one j in
     cc
@@ -96,16 +96,16 @@ length_closed : (n : ℕ) → length (replicate 56 0 ++ bit_length_bytes n) ≡ 
 unfolding bit_length_bytes
 length_closed n = refl
 
-zeros_after : (n t k : ℕ) → k ≡ t → t < n → drop k (replicate {A = ℕ} n 0) ≡ 0 ∷ replicate (n - 1 - t) 0
-zeros_after n t k e h =
-    let m : n - k ≡ suc (n - 1 - t) = omega arith in
-    drop-replicate k n 0 ∙ ap (λ (i : ℕ). replicate i 0) m
+zeros_after : (n t : ℕ) → t < n → drop t (replicate {A = ℕ} n 0) ≡ 0 ∷ replicate (n - 1 - t) 0
+zeros_after n t h =
+    let m : n - t ≡ suc (n - 1 - t) = omega arith in
+    drop-replicate t n 0 ∙ ap (λ (i : ℕ). replicate i 0) m
 
 -- a block of n bytes that begins with the tail, then 128 and zeros, as the code writes it
 pub start_end : (n : ℕ) (tail x : List ℕ) → length tail < n → x ≡ tail
-    → set (x ++ post_of 0 (length tail - 0) (replicate n 0)) (length tail) 128 ≡ tail ++ (128 ∷ replicate (n - 1 - length tail) 0)
+    → set (x ++ post_of 0 (length tail) (replicate n 0)) (length tail) 128 ≡ tail ++ (128 ∷ replicate (n - 1 - length tail) 0)
 start_end n tail x h e =
-    ap₂ (λ (y z : List ℕ). set (y ++ z) (length tail) 128) e (zeros_after n (length tail) (length tail - 0) (omega arith) h)
+    ap₂ (λ (y z : List ℕ). set (y ++ z) (length tail) 128) e (zeros_after n (length tail) h)
     ∙ set_at tail 0 (replicate (n - 1 - length tail) 0) 128 (length tail) refl
 
 -- a block whose last eight bytes are ys
@@ -182,16 +182,15 @@ pub block_count_is : (m : List ℕ) → length m / 64 + (length m % 64 + 72) / 6
 block_count_is m = omega (arith, length_padded m)
 
 -- the blocks that a message fills, and what is left of it with the padding, as the code takes it
-pub final_state_is : (m : List ℕ) (s t : State) → s ≡ compress (length m / 64) initial_state m
-    → (let r : List ℕ = take (length m - 64 * (length m / 64)) (drop (64 * (length m / 64)) m) in
-    t ≡ compress (length (r ++ padding (length m)) / 64) s (r ++ padding (length m)))
+pub final_state_is : (m tail : List ℕ) (s t : State) → s ≡ compress (length m / 64) initial_state m → tail ≡ drop (length m / 64 * 64) m
+    → t ≡ compress (length (tail ++ padding (length m)) / 64) s (tail ++ padding (length m))
     → t ≡ final_state m
 unfolding final_state
-final_state_is m s t a b =
+final_state_is m tail s t a back b =
     let q : ℕ = length m / 64 in
     let h : 64 * q ≤ length m = omega arith in
     let r : List ℕ = drop (64 * q) m ++ padding (length m) in
-    let d = take_rest m (64 * q) in
+    let d : tail ≡ drop (64 * q) m = back ∙ ap (λ (k : ℕ). drop k m) (let e : q * 64 ≡ 64 * q = omega arith in e) in
     let p = padded_is m in
     let lr : length r ≡ length m - 64 * q + length (padding (length m)) =
     length-append (drop (64 * q) m) (padding (length m)) ∙ ap (λ (k : ℕ). k + length (padding (length m))) (length-drop (64 * q) m) in

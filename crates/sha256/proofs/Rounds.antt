@@ -17,26 +17,23 @@ unfolding rounds_on
 rounds_on_append s [] ys = refl
 rounds_on_append s (x ∷ xs) ys = rounds_on_append (round s x) xs ys
 
-pub four_rounds : (s p q r t : State) (xs ys : List ℕ) → length xs ≡ 4
+pub four_rounds : (s p q r t : State) (xs : List ℕ) → length xs ≡ 4
     → p ≡ round s (get_or xs 0 0) → q ≡ round p (get_or xs 1 0) → r ≡ round q (get_or xs 2 0) → t ≡ round r (get_or xs 3 0)
-    → rounds_on s (xs ++ ys) ≡ rounds_on t ys
+    → t ≡ rounds_on s xs
 unfolding rounds_on
-four_rounds s p q r t xs ys l =
+four_rounds s p q r t xs l =
     by_four
     (λ (xs : List ℕ). p ≡ round s (get_or xs 0 0) → q ≡ round p (get_or xs 1 0) → r ≡ round q (get_or xs 2 0) → t ≡ round r (get_or xs 3 0)
-    → rounds_on s (xs ++ ys) ≡ rounds_on t ys)
+    → t ≡ rounds_on s xs)
     (λ x0 x1 x2 x3 e f g h. cc) xs l
 
-rounds_on_none : (s : State) → rounds_on s [] ≡ s
-unfolding rounds_on
-rounds_on_none s = refl
-
--- the last four
-pub four_rounds_end : (s p q r t : State) (xs : List ℕ) → length xs ≡ 4
-    → p ≡ round s (get_or xs 0 0) → q ≡ round p (get_or xs 1 0) → r ≡ round q (get_or xs 2 0) → t ≡ round r (get_or xs 3 0)
-    → rounds_on s xs ≡ t
-four_rounds_end s p q r t xs l e f g h =
-    ap (rounds_on s) (sym (append-nil xs)) ∙ four_rounds s p q r t xs [] l e f g h ∙ rounds_on_none t
+pub sixteen_rounds : (s p q r t : State) (a b c d : List ℕ) → p ≡ rounds_on s a → q ≡ rounds_on p b → r ≡ rounds_on q c → t ≡ rounds_on r d
+    → t ≡ rounds_on s (a ++ (b ++ (c ++ d)))
+sixteen_rounds s p q r t a b c d e f g h =
+    let x = rounds_on_append s a (b ++ (c ++ d)) in
+    let y = rounds_on_append p b (c ++ d) in
+    let z = rounds_on_append q c d in
+    cc
 
 -- what is left of a block's rounds, where the rounds over the sums x come next, and the words w were the last sixteen made, before those for the round at 16 j
 unfoldable pub left : ℕ → State → List ℕ → List ℕ → State

@@ -1,7 +1,8 @@
 // SHA-256 (FIPS 180-4, whose sections are named) of any slice of bytes, with no allocation.
 #![tactic(auto)]
 
-ghost use Rattle.std.specs.Prelude.{◌≡◌, ℕ, ◌+◌, ◌-◌, ◌*◌, ◌/◌, ◌%◌, ◌<◌, ◌≤◌, List, ◌∷◌, ◌++◌, map, length, take, drop, replicate, slice_index};
+ghost use Rattle.std.specs.Prelude.{◌≡◌, ℕ, ◌+◌, ◌-◌, ◌*◌, ◌/◌, ◌%◌, ◌<◌, ◌≤◌, List, ◌∷◌, ◌++◌, map, length, take, drop, replicate};
+ghost use Rattle.std.specs.List.{flat_map};
 ghost use Rattle.model.specs.Records.{hash_of};
 ghost use Rattle.model.specs.Sha256.{be_words, block_count, compress, extend_schedule, rotr, sha256};
 ghost use Rattle.sha256.specs.Limbs.{Limbs, limbs_bytes, limbs_number};
@@ -10,7 +11,7 @@ ghost use Rattle.sha256.specs.View.{state_of, sums_of, words_of};
 
 use std::simd::prelude::*;
 
-// Section 4.2.2.
+// Section 4.2.2: a table, as the standard gives it.
 const ROUND_CONSTANTS: [u32; 64] = [
     0x428a2f98, 0x71374491, 0xb5c0fbcf, 0xe9b5dba5, 0x3956c25b, 0x59f111f1, 0x923f82a4, 0xab1c5ed5,
     0xd807aa98, 0x12835b01, 0x243185be, 0x550c7dc3, 0x72be5d74, 0x80deb1fe, 0x9bdc06a7, 0xc19bf174,
@@ -34,6 +35,7 @@ const INITIAL_STATE: HashState = HashState {
     h: 0x5be0cd19,
 };
 
+// The standard's working variables, under its names, which an array would lose.
 #[derive(Clone, Copy)]
 struct HashState {
     a: u32,
@@ -91,10 +93,10 @@ pub fn digest(message: &[u8]) -> [u64; 4]
 pub fn block_count(len: usize) -> usize
     ensures { (m : List ℕ) → length m ≡ len → result ≡ block_count m }
 {
-    len / 64 + (len % 64 + 9 + 63) / 64
+    len / 64 + (len % 64 + 9).div_ceil(64)
 }
 
-// A digest for C.
+// A digest for C, whose interface wants a struct.
 #[repr(C)]
 pub struct Sha256Digest {
     pub limbs: [u64; 4],
@@ -110,22 +112,12 @@ pub fn sha256_digest(message: &[u8], out: &mut Sha256Digest)
 fn hash(message: &[u8]) -> HashState
     ensures { state_of result ≡ final_state message.now }
 {
-    let n = message.len();
-    compress_tail(
-        compress_whole_blocks(message),
-        &message[64 * (n / 64)..n],
-        n,
-    )
-}
-
-fn compress_whole_blocks(message: &[u8]) -> HashState
-    ensures { state_of result ≡ compress (length message.now / 64) initial_state message.now }
-{
+    let (blocks, tail) = message.as_chunks();
     let mut s = INITIAL_STATE;
-    for j in 0..message.len() / 64 {
-        s = compress_block(s, &message[64 * j..64 * j + 64]);
+    for block in blocks {
+        s = compress_block(s, block);
     }
-    s
+    compress_tail(s, tail, message.len())
 }
 
 // The last block or two, of a message of `n` bytes that ends in `tail`.
@@ -137,7 +129,7 @@ fn compress_tail(s: HashState, tail: &[u8], n: usize) -> HashState
     if tail.len() < 56 {
         compress_block(s, &end_padding(block, n))
     } else {
-        compress_block(compress_block(s, &block), &end_padding([0u8; 64], n))
+        compress_block(compress_block(s, &block), &end_padding([0; 64], n))
     }
 }
 
@@ -146,10 +138,9 @@ fn start_padding(tail: &[u8]) -> [u8; 64]
     requires { length tail.now < 64 }
     ensures { result ≡ tail.now ++ (128 ∷ replicate (63 - length tail.now) 0) }
 {
-    let mut block = [0u8; 64];
-    let n = tail.len();
-    block[0..n].copy_from_slice(tail);
-    block[n] = 128;
+    let mut block = [0; 64];
+    block[..tail.len()].copy_from_slice(tail);
+    block[tail.len()] = 128;
     block
 }
 
@@ -157,14 +148,12 @@ fn start_padding(tail: &[u8]) -> [u8; 64]
 fn end_padding(mut block: [u8; 64], n: usize) -> [u8; 64]
     ensures { result ≡ take 56 block ++ bit_length_bytes n }
 {
-    let bits = (n << 3).to_be_bytes();
-    block[56..64].copy_from_slice(&bits);
+    block[56..].copy_from_slice(&(n << 3).to_be_bytes());
     block
 }
 
 // Section 6.2.2. The schedule is made sixteen words ahead, between the rounds: vectors and numbers wait for different parts of the processor.
-fn compress_block(start: HashState, block: &[u8]) -> HashState
-    requires { length block.now ≡ 64 }
+fn compress_block(start: HashState, block: &[u8; 64]) -> HashState
     ensures { state_of result ≡ compress_block (state_of start) block.now }
 {
     let mut words = block_words(block);
@@ -194,47 +183,32 @@ fn add_hash_states(s: HashState, t: HashState) -> HashState
     }
 }
 
-fn block_words(block: &[u8]) -> Words
-    requires { length block.now ≡ 64 }
+fn block_words(block: &[u8; 64]) -> Words
     ensures words { words_of result ≡ be_words block.now }
     ensures count { length (words_of result) ≡ 16 }
 {
+    let words = block.as_chunks().0;
     Words {
-        a: four_words(block, 0),
-        b: four_words(block, 4),
-        c: four_words(block, 8),
-        d: four_words(block, 12),
+        a: four_words(&words[..4]),
+        b: four_words(&words[4..8]),
+        c: four_words(&words[8..12]),
+        d: four_words(&words[12..]),
     }
 }
 
-// The words from the one at `i` on.
-fn four_words(block: &[u8], i: usize) -> u32x4
-    requires { 4 * i + 16 ≤ length block.now }
-    ensures { be_words (drop (4 * i) block.now) ≡ result ++ be_words (drop (4 * i + 16) block.now) }
+fn four_words(words: &[[u8; 4]]) -> u32x4
+    requires { length words.now ≡ 4 }
+    ensures { result ≡ flat_map be_words words.now }
 {
     u32x4::from_array([
-        word_at(block, i),
-        word_at(block, i + 1),
-        word_at(block, i + 2),
-        word_at(block, i + 3),
-    ])
-}
-
-// The word of the bytes from `4 * i` on.
-fn word_at(block: &[u8], i: usize) -> u32
-    requires { 4 * i + 4 ≤ length block.now }
-    ensures { be_words (drop (4 * i) block.now) ≡ result ∷ be_words (drop (4 * i + 4) block.now) }
-{
-    u32::from_be_bytes([
-        block[4 * i],
-        block[4 * i + 1],
-        block[4 * i + 2],
-        block[4 * i + 3],
+        u32::from_be_bytes(words[0]),
+        u32::from_be_bytes(words[1]),
+        u32::from_be_bytes(words[2]),
+        u32::from_be_bytes(words[3]),
     ])
 }
 
 // Sixteen rounds over `sums`, and the sixteen words that follow `w`, with the constants from `t` on.
-// Each round is a call of its own, so that it is inlined with its registers fixed.
 fn rounds_and_schedule(s: HashState, w: Words, sums: &Sums, t: usize) -> Progress
     requires { t + 16 ≤ 64 }
     ensures state { state_of result.state ≡ rounds_on (state_of s) (sums_of sums.now) }
@@ -243,28 +217,16 @@ fn rounds_and_schedule(s: HashState, w: Words, sums: &Sums, t: usize) -> Progres
     ensures sums { sums_of result.sums ≡ add_words (drop t round_constants) (words_of result.words) }
 {
     let a = next_words(w.a, w.b, w.c, w.d);
-    let s1 = round_on(s, sums.a[0]);
-    let s2 = round_on(s1, sums.a[1]);
-    let s3 = round_on(s2, sums.a[2]);
-    let s4 = round_on(s3, sums.a[3]);
+    let s = four_rounds(s, &sums.a);
     let b = next_words(w.b, w.c, w.d, a);
-    let s5 = round_on(s4, sums.b[0]);
-    let s6 = round_on(s5, sums.b[1]);
-    let s7 = round_on(s6, sums.b[2]);
-    let s8 = round_on(s7, sums.b[3]);
+    let s = four_rounds(s, &sums.b);
     let c = next_words(w.c, w.d, a, b);
-    let s9 = round_on(s8, sums.c[0]);
-    let s10 = round_on(s9, sums.c[1]);
-    let s11 = round_on(s10, sums.c[2]);
-    let s12 = round_on(s11, sums.c[3]);
+    let s = four_rounds(s, &sums.c);
     let d = next_words(w.d, a, b, c);
-    let s13 = round_on(s12, sums.d[0]);
-    let s14 = round_on(s13, sums.d[1]);
-    let s15 = round_on(s14, sums.d[2]);
-    let s16 = round_on(s15, sums.d[3]);
+    let s = four_rounds(s, &sums.d);
     let words = Words { a, b, c, d };
     Progress {
-        state: s16,
+        state: s,
         words,
         sums: add_constants(words, t),
     }
@@ -273,22 +235,21 @@ fn rounds_and_schedule(s: HashState, w: Words, sums: &Sums, t: usize) -> Progres
 fn sixteen_rounds(s: HashState, sums: &Sums) -> HashState
     ensures { state_of result ≡ rounds_on (state_of s) (sums_of sums.now) }
 {
-    let s1 = round_on(s, sums.a[0]);
-    let s2 = round_on(s1, sums.a[1]);
-    let s3 = round_on(s2, sums.a[2]);
-    let s4 = round_on(s3, sums.a[3]);
-    let s5 = round_on(s4, sums.b[0]);
-    let s6 = round_on(s5, sums.b[1]);
-    let s7 = round_on(s6, sums.b[2]);
-    let s8 = round_on(s7, sums.b[3]);
-    let s9 = round_on(s8, sums.c[0]);
-    let s10 = round_on(s9, sums.c[1]);
-    let s11 = round_on(s10, sums.c[2]);
-    let s12 = round_on(s11, sums.c[3]);
-    let s13 = round_on(s12, sums.d[0]);
-    let s14 = round_on(s13, sums.d[1]);
-    let s15 = round_on(s14, sums.d[2]);
-    round_on(s15, sums.d[3])
+    let s = four_rounds(s, &sums.a);
+    let s = four_rounds(s, &sums.b);
+    let s = four_rounds(s, &sums.c);
+    four_rounds(s, &sums.d)
+}
+
+// Each round is a call of its own, and no turn of a loop, so that it is inlined with its registers fixed.
+#[inline(always)]
+fn four_rounds(s: HashState, sums: &[u32; 4]) -> HashState
+    ensures { state_of result ≡ rounds_on (state_of s) sums.now }
+{
+    let s = round_on(s, sums[0]);
+    let s = round_on(s, sums[1]);
+    let s = round_on(s, sums[2]);
+    round_on(s, sums[3])
 }
 
 fn add_constants(w: Words, t: usize) -> Sums
@@ -307,20 +268,7 @@ fn add_four(w: u32x4, t: usize) -> [u32; 4]
     requires { t + 4 ≤ 64 }
     ensures { result ≡ add_words (drop t round_constants) w }
 {
-    let k = u32x4::from_array([
-        round_constant(t),
-        round_constant(t + 1),
-        round_constant(t + 2),
-        round_constant(t + 3),
-    ]);
-    (k + w).to_array()
-}
-
-fn round_constant(t: usize) -> u32
-    requires { t < 64 }
-    ensures { result ≡ slice_index round_constants t }
-{
-    ROUND_CONSTANTS[t]
+    (u32x4::from_slice(&ROUND_CONSTANTS[t..]) + w).to_array()
 }
 
 // The four words of the schedule that follow sixteen; the last two of them take the first two.
@@ -412,11 +360,7 @@ mod tests {
     use std::process::Abort;
 
     fn check_digest(rt: &impl Abort, message: &[u8], expected: [u64; 4]) {
-        let d = digest(message);
-        assert!(rt; d[0] == expected[0]);
-        assert!(rt; d[1] == expected[1]);
-        assert!(rt; d[2] == expected[2]);
-        assert!(rt; d[3] == expected[3]);
+        assert_eq!(rt; digest(message), expected);
     }
 
     // The examples that NIST publishes with the standard, and no bytes.
@@ -470,10 +414,10 @@ mod tests {
 
     #[test]
     fn counts_blocks(rt: HostRuntime) {
-        assert!(rt; block_count(0) == 1);
-        assert!(rt; block_count(55) == 1);
-        assert!(rt; block_count(56) == 2);
-        assert!(rt; block_count(64) == 2);
-        assert!(rt; block_count(usize::MAX) == 0x400000000000001);
+        assert_eq!(rt; block_count(0), 1);
+        assert_eq!(rt; block_count(55), 1);
+        assert_eq!(rt; block_count(56), 2);
+        assert_eq!(rt; block_count(64), 2);
+        assert_eq!(rt; block_count(usize::MAX), 0x400000000000001);
     }
 }

@@ -19,8 +19,8 @@ wraps n u x e h = omega arith
 
 -- four words that are added, with what is carried from each
 pub added : (s h : List ℕ) → length s ≡ 4 → length h ≡ 4 → (a p b q c r d u : ℕ)
-    → a + 2 ^ 64 * p ≡ get_or s 0 0 + get_or h 0 0 + 0 → b + 2 ^ 64 * q ≡ get_or s 1 0 + get_or h 1 0 + p
-    → c + 2 ^ 64 * r ≡ get_or s 2 0 + get_or h 2 0 + q → d + 2 ^ 64 * u ≡ get_or s 3 0 + get_or h 3 0 + r
+    → a + p * 2 ^ 64 ≡ get_or s 0 0 + get_or h 0 0 + 0 → b + q * 2 ^ 64 ≡ get_or s 1 0 + get_or h 1 0 + p
+    → c + r * 2 ^ 64 ≡ get_or s 2 0 + get_or h 2 0 + q → d + u * 2 ^ 64 ≡ get_or s 3 0 + get_or h 3 0 + r
     → a < 2 ^ 64 → b < 2 ^ 64 → c < 2 ^ 64 → d < 2 ^ 64
     → number_in (a ∷ (b ∷ (c ∷ (d ∷ [])))) ≡ (number_in s + number_in h) % modulus
 unfolding number_in

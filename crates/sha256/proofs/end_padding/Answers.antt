@@ -6,4 +6,4 @@ use Rattle.sha256.proofs.end_padding.Goals as goal
 pub returns : goal.returns
 returns c =
     close_end c.args.block c.copy_from_slice.new.self (bit_length_bytes c.args.n) (omega arith)
-    (c.copy_from_slice.ensures.after ∙ c.to_be_bytes-bits.ensures ∙ bit_length_is c.args.n)
+    (c.copy_from_slice.ensures.after ∙ c.to_be_bytes.ensures ∙ bit_length_is c.args.n)

@@ -1,16 +1,9 @@
-use Rattle.std.proofs.Common.{ℕ, List, ◌++◌, sym, ◌∙◌, arith}
 use Rattle.sha256.specs.View.{state_of}
-use Rattle.sha256.proofs.Rounds.{four_rounds, four_rounds_end}
+use Rattle.sha256.proofs.Rounds.{sixteen_rounds}
 use Rattle.sha256.proofs.sixteen_rounds.Goals as goal
 
 pub returns : goal.returns
 returns c =
-    let a : List ℕ = c.args.sums.now.a in
-    let b : List ℕ = c.args.sums.now.b in
-    let e : List ℕ = c.args.sums.now.c in
-    let d : List ℕ = c.args.sums.now.d in
-    sym
-    (four_rounds (state_of c.args.s) (state_of c.round_on-s1.result) (state_of c.round_on-s2.result) (state_of c.round_on-s3.result) (state_of c.round_on-s4.result) a (b ++ (e ++ d)) (omega arith) c.round_on-s1.ensures c.round_on-s2.ensures c.round_on-s3.ensures c.round_on-s4.ensures
-    ∙ four_rounds (state_of c.round_on-s4.result) (state_of c.round_on-s5.result) (state_of c.round_on-s6.result) (state_of c.round_on-s7.result) (state_of c.round_on-s8.result) b (e ++ d) (omega arith) c.round_on-s5.ensures c.round_on-s6.ensures c.round_on-s7.ensures c.round_on-s8.ensures
-    ∙ four_rounds (state_of c.round_on-s8.result) (state_of c.round_on-s9.result) (state_of c.round_on-s10.result) (state_of c.round_on-s11.result) (state_of c.round_on-s12.result) e d (omega arith) c.round_on-s9.ensures c.round_on-s10.ensures c.round_on-s11.ensures c.round_on-s12.ensures
-    ∙ four_rounds_end (state_of c.round_on-s12.result) (state_of c.round_on-s13.result) (state_of c.round_on-s14.result) (state_of c.round_on-s15.result) (state_of c.round_on.result) d (omega arith) c.round_on-s13.ensures c.round_on-s14.ensures c.round_on-s15.ensures c.round_on.ensures)
+    let sums = c.args.sums.now in
+    sixteen_rounds (state_of c.args.s) (state_of c.four_rounds-s.result) (state_of c.four_rounds-s-2.result) (state_of c.four_rounds-s-3.result) (state_of c.four_rounds.result)
+    sums.a sums.b sums.c sums.d c.four_rounds-s.ensures c.four_rounds-s-2.ensures c.four_rounds-s-3.ensures c.four_rounds.ensures
