@@ -5,8 +5,8 @@ use crate::key::sum_key;
 use crate::monitor::{Monitor, OpenError};
 use logfile::{Frame, LENGTH_BYTES, Limits, cut_at, frame_at, read_limits};
 use options::CheckOptions;
+use std::fs;
 use std::io::{BufWriter, Read, Write};
-use std::{fs, io};
 use summary::{AnswerText, Summary};
 use wire::Answer;
 
@@ -40,26 +40,21 @@ fn check_source<'a, M: Monitor, R: Read + Drop>(
     source: R,
 ) -> Result<Summary, CheckError<'a>> {
     let key = sum_key(rt, options.key)?;
-    let mut input = Input::new(rt.alloc(), source).map_err(|_| CheckError::NoMemoryToRead(name))?;
-    let limits = first_line(name, &mut input)?;
+    let mut input = Input::new(rt.alloc(), name, source)?;
+    let limits = first_line(&mut input)?;
     let mut monitor = M::open(rt.alloc(), limits, key.bytes()).map_err(|e| match e {
         OpenError::NoMemory => CheckError::NoMemoryForLimits(name),
         OpenError::OutOfRange => CheckError::LimitsOutOfRange(name),
     })?;
-    let summary = check_events(rt, options, name, &mut input, &mut monitor)?;
+    let summary = check_events(rt, options, &mut input, &mut monitor)?;
     rt.eprintln(summary)
         .map_err(|e| CheckError::Io(STANDARD_ERROR, e))?;
     Ok(summary)
 }
 
 // Takes the first line, and reads the limits in it.
-fn first_line<'a, R: Read + Drop>(
-    name: &'a str,
-    input: &mut Input<R>,
-) -> Result<Limits, CheckError<'a>> {
-    input
-        .fill(FIRST_LINE_BYTES)
-        .map_err(|e| CheckError::Io(name, e))?;
+fn first_line<'a, R: Read + Drop>(input: &mut Input<'a, R>) -> Result<Limits, CheckError<'a>> {
+    input.fill(FIRST_LINE_BYTES)?;
     let held = input.held();
     let held = &held[..held.len().min(FIRST_LINE_BYTES)];
     let line = held
@@ -67,7 +62,7 @@ fn first_line<'a, R: Read + Drop>(
         .next()
         .unwrap_or(held);
     let len = line.len();
-    let limits = read_limits(line).map_err(|e| CheckError::FirstLine(name, e))?;
+    let limits = read_limits(line).map_err(|e| CheckError::FirstLine(input.name(), e))?;
     input.consume(len);
     Ok(limits)
 }
@@ -75,8 +70,7 @@ fn first_line<'a, R: Read + Drop>(
 fn check_events<'a, M: Monitor, R: Read + Drop>(
     rt: &HostRuntime,
     options: CheckOptions<'a>,
-    name: &'a str,
-    input: &mut Input<R>,
+    input: &mut Input<'a, R>,
     monitor: &mut M,
 ) -> Result<Summary, CheckError<'a>> {
     let unwritten = |e| CheckError::Io(STANDARD_OUTPUT, e);
@@ -84,8 +78,7 @@ fn check_events<'a, M: Monitor, R: Read + Drop>(
     let mut summary = Summary::new();
     // No log has more events than this.
     for _ in 0..u64::MAX {
-        let answer = next_answer(input, monitor).map_err(|e| CheckError::Io(name, e))?;
-        let Some(answer) = answer else {
+        let Some(answer) = next_answer(input, monitor)? else {
             break;
         };
         summary.count(answer);
@@ -103,10 +96,10 @@ fn check_events<'a, M: Monitor, R: Read + Drop>(
 }
 
 // The answer to the next event, or none at the log's end.
-fn next_answer<M: Monitor, R: Read + Drop>(
-    input: &mut Input<R>,
+fn next_answer<'a, M: Monitor, R: Read + Drop>(
+    input: &mut Input<'a, R>,
     monitor: &mut M,
-) -> io::Result<Option<Answer>> {
+) -> Result<Option<Answer>, CheckError<'a>> {
     read_event(input)?;
     let held = input.held();
     match frame_at(held) {
@@ -126,7 +119,7 @@ fn next_answer<M: Monitor, R: Read + Drop>(
 }
 
 // Reads until a whole event is held, or the input ends.
-fn read_event<R: Read + Drop>(input: &mut Input<R>) -> io::Result<()> {
+fn read_event<'a, R: Read + Drop>(input: &mut Input<'a, R>) -> Result<(), CheckError<'a>> {
     input.fill(LENGTH_BYTES)?;
     if let Err(short) = frame_at(input.held()) {
         input.fill(short.wanted)?;

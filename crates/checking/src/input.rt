@@ -1,15 +1,16 @@
-// The part of an input that is held in a buffer of fixed size.
+// An input, with the part of it that is held in a buffer of fixed size.
 ghost use Rattle.std.specs.Prelude.{◌≡◌, ℕ, ◌+◌, ◌-◌, ◌<◌, ◌≤◌, min, length, take, IfOk, OnOk, slice_index, slice_range, vec_len};
 
-use std::alloc::{AllocError, Global};
-use std::io;
+use crate::error::CheckError;
+use std::alloc::Global;
 use std::io::{ErrorKind, Read};
 
 pub const BUFFER_BYTES: usize = 1_048_576;
 
 // buf[at..end] is read and not yet taken.
 #[derive(Drop)]
-pub struct Input<R> {
+pub struct Input<'a, R> {
+    name: &'a str,
     source: R,
     buf: Vec<u8>,
     at: usize,
@@ -19,14 +20,20 @@ pub struct Input<R> {
     ghost inside: { end ≤ 1048576 },
 }
 
-impl<R: Read + Drop> Input<R> {
-    pub fn new(alloc: Global, source: R) -> Result<Input<R>, AllocError> {
+impl<'a, R: Read + Drop> Input<'a, R> {
+    pub fn new(alloc: Global, name: &'a str, source: R) -> Result<Input<'a, R>, CheckError<'a>> {
+        let buf = vec![in alloc; 0u8; BUFFER_BYTES].map_err(|_| CheckError::NoMemoryToRead(name))?;
         Ok(Input {
+            name,
             source,
-            buf: vec![in alloc; 0u8; BUFFER_BYTES]?,
+            buf,
             at: 0,
             end: 0,
         })
+    }
+
+    pub fn name(&self) -> &'a str {
+        self.name
     }
 
     // What is held.
@@ -49,7 +56,7 @@ impl<R: Read + Drop> Input<R> {
     }
 
     // Reads until at least `wanted` bytes are held, or the input ends.
-    pub fn fill(&mut self, wanted: usize) -> io::Result<()> {
+    pub fn fill(&mut self, wanted: usize) -> Result<(), CheckError<'a>> {
         if wanted > BUFFER_BYTES - self.at {
             self.move_to_front();
         }
@@ -62,7 +69,7 @@ impl<R: Read + Drop> Input<R> {
     }
 
     // Takes the next n bytes, or all to the input's end.
-    pub fn skip(&mut self, n: usize) -> io::Result<()> {
+    pub fn skip(&mut self, n: usize) -> Result<(), CheckError<'a>> {
         let mut left = n - self.consume(n);
         while left > 0 {
             self.move_to_front();
@@ -86,7 +93,7 @@ impl<R: Read + Drop> Input<R> {
     }
 
     // One read behind what is held, which stays. Returns how many bytes came: none at the input's end.
-    fn read_once(&mut self) -> io::Result<usize>
+    fn read_once(&mut self) -> Result<usize, CheckError<'a>>
         ensures start { self.new.at ≡ self.old.at }
         ensures end { IfOk result (λ n. self.new.end ≡ self.old.end + n) }
         ensures bytes { take self.old.end self.new.buf.items ≡ take self.old.end self.old.buf.items }
@@ -99,7 +106,7 @@ impl<R: Read + Drop> Input<R> {
                     return Ok(n);
                 }
                 Err(e) if e.kind() == ErrorKind::Interrupted => {}
-                Err(e) => return Err(e),
+                Err(e) => return Err(CheckError::Io(self.name, e)),
             }
         }
         Ok(0)
