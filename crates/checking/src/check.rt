@@ -76,7 +76,7 @@ fn check_events<'a, M: Monitor, R: Read + Drop>(
     let unwritten = |e| CheckError::Io(STANDARD_OUTPUT, e);
     let mut out = BufWriter::new(rt.alloc(), rt.stdout()).map_err(unwritten)?;
     let mut summary = Summary::new();
-    // No log has more events than this.
+    // Reading on until the input ends has no measure. No log has more events than this.
     for _ in 0..u64::MAX {
         let Some(answer) = next_answer(input, monitor)? else {
             break;

@@ -98,7 +98,7 @@ impl<'a, R: Read + Drop> Input<'a, R> {
         ensures end { IfOk result (λ n. self.new.end ≡ self.old.end + n) }
         ensures bytes { take self.old.end self.new.buf.items ≡ take self.old.end self.old.buf.items }
     {
-        // A read that is interrupted is tried again, as often as no machine can.
+        // Reading on while interrupted has no measure. No machine is interrupted as often as this.
         for _ in 0..u64::MAX {
             match self.source.read(&mut self.buf[self.end..]) {
                 Ok(n) => {

@@ -75,8 +75,5 @@ fn main(rt: HostRuntime) -> ExitCode {
         Ok(args) => args,
         Err(failure) => return told(&rt, failure),
     };
-    match run(&rt, args.as_slice()) {
-        Ok(status) => status,
-        Err(failure) => told(&rt, failure),
-    }
+    run(&rt, args.as_slice()).unwrap_or_else(|failure| told(&rt, failure))
 }

@@ -1,8 +1,11 @@
 -- One step of reading a number or a byte at a slice, as the code takes it.
-use Rattle.std.proofs.Common.{◌≡◌, ℕ, ◌+◌, ◌-◌, ◌*◌, ◌<◌, ◌≤◌, min, true, false, List, [], ◌∷◌, length, get_or, take, drop, Some, None, sym, refl, ap, ◌∙◌, arith}
+use Rattle.std.proofs.Common.{◌≡◌, ℕ, ◌+◌, ◌-◌, ◌*◌, ◌<◌, ◌≤◌, min, true, false, List, [], ◌∷◌, length, get_or, take, drop, Some, None, Option, ◌++◌, ◌≢◌, MatchOption, Bor, nat_eq, sym, refl, ap, ◌∙◌, arith}
+use Rattle.std.specs.Option.{option_map}
+use lib.Pointwise.{pointwise}
+use Rattle.std.proofs.lemmas.Slice.Eq.{strip_prefix_is}
 use Rattle.std.proofs.lemmas.List.{take_rest}
 use Rattle.std.proofs.lemmas.Bool.{eq-eqb, ne_eqb}
-use Rattle.std.proofs.lemmas.Bool.Decides.{nat_tests}
+use Rattle.std.proofs.lemmas.Bool.Decides.{nat_tests, Decides-eqb}
 use Rattle.logfile.specs.FirstLine.{digits_on, is_digit, number_at, past_byte}
 
 pub digits_more : (n : ℕ) (c : ℕ) (cs : List ℕ) → is_digit c ≡ true → digits_on n (c ∷ cs) ≡ digits_on (min (n * 10 + (c - 48)) 65535) cs
@@ -74,17 +77,23 @@ pub number_digits : (xs : List ℕ) (z : ℕ × List ℕ) → 1 ≤ length xs �
 number_digits [] z h lo hi e = absurd (omega arith)
 number_digits (x ∷ xs) z h lo hi e = ap Some (e ∙ ap (digits_on (x - 48)) (take_rest (x ∷ xs) 1)) ∙ number_first x xs lo hi
 
-pub past_none : (b : ℕ) (xs : List ℕ) → length xs < 1 → None ≡ past_byte b xs
+past_end : (b : ℕ) → None ≡ past_byte b []
 unfolding past_byte
-past_none b [] h = refl
-past_none b (x ∷ xs) h = absurd (omega arith)
+past_end b = refl
 
-pub past_other : (b : ℕ) (xs : List ℕ) → 1 ≤ length xs → (get_or xs 0 0 ≡ b → ⊥) → None ≡ past_byte b xs
+past_other : (b c : ℕ) (cs : List ℕ) → (c ≡ b → ⊥) → None ≡ past_byte b (c ∷ cs)
 unfolding past_byte
-past_other b [] h n = absurd (omega arith)
-past_other b (x ∷ xs) h n = rw (ne_eqb x b n)
+past_other b c cs n = rw (ne_eqb c b n)
 
-pub past_this : (b : ℕ) (xs : List ℕ) → 1 ≤ length xs → get_or xs 0 0 ≡ b → Some (take (length xs - 1) (drop 1 xs)) ≡ past_byte b xs
+pub past_that : (b : ℕ) (rest : List ℕ) → past_byte b (b ∷ rest) ≡ Some rest
 unfolding past_byte
-past_this b [] h e = absurd (omega arith)
-past_this b (x ∷ xs) h e = rw (eq-eqb x b e, take_rest (x ∷ xs) 1)
+past_that b rest = rw (eq-eqb b b refl)
+
+past_after : (b : ℕ) (xs : List ℕ) (r : Option (Bor (List ℕ))) → MatchOption r ((rest : List ℕ) → xs ≢ (b ∷ []) ++ rest) (λ x. xs ≡ (b ∷ []) ++ x.now) → option_map (λ x. x.now) r ≡ past_byte b xs
+past_after b xs (Some x) h = sym (ap (past_byte b) h ∙ past_that b x.now)
+past_after b [] None h = past_end b
+past_after b (c ∷ cs) None h = past_other b c cs (λ e. h cs (ap (λ k. k ∷ cs) e))
+
+pub past_stripped : (b : ℕ) (xs : List ℕ) (r : Option (Bor (List ℕ)))
+    → MatchOption r (pointwise nat_eq (take 1 xs) (b ∷ []) ≡ false) (λ x. (pointwise nat_eq (take 1 xs) (b ∷ []) ≡ true) × (x.now ≡ drop 1 xs) × (length x.now + 1 ≡ length xs)) → option_map (λ x. x.now) r ≡ past_byte b xs
+past_stripped b xs r h = past_after b xs r (strip_prefix_is Decides-eqb xs (b ∷ []) r h)

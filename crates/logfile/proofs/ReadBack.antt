@@ -1,10 +1,10 @@
 -- The text of three numbers is read as those numbers.
 use Rattle.std.proofs.Common.{◌≡◌, ℕ, zero, suc, ◌+◌, ◌-◌, ◌*◌, ◌/◌, ◌%◌, ◌^◌, ◌<◌, ◌≤◌, min, false, ◌⊎◌, List, [], ◌∷◌, ◌++◌, Some, decimal, refl, ap, ◌∙◌, inl, inr, append_assoc, arith}
 use Rattle.std.proofs.lemmas.Fmt.{decimal_by_steps, decimal_digit}
-use Rattle.std.proofs.lemmas.Bool.{eq-eqb, ne_eqb}
+use Rattle.std.proofs.lemmas.Bool.{ne_eqb}
 use Rattle.std.proofs.lemmas.Bool.Decides.{nat_tests}
-use Rattle.logfile.specs.FirstLine.{digits_on, is_digit, number_at, past_byte, number_then, in_range, line_text, read_line}
-use Rattle.logfile.proofs.Digits.{digit_is, digits_more, digits_stop}
+use Rattle.logfile.specs.FirstLine.{digits_on, is_digit, number_at, number_then, in_range, line_text, read_line}
+use Rattle.logfile.proofs.Digits.{past_that, digit_is, digits_more, digits_stop}
 
 number_first : (n : ℕ) (rest : List ℕ) → 0 < n → n < 10 → number_at ((48 + n) ∷ rest) ≡ Some (digits_on (min n 65535) rest)
 unfolding number_at
@@ -55,10 +55,6 @@ number_text n c rest h s =
       | inl e ↦ number_zero_text n (c ∷ rest) e
       | inr p ↦ begins n h (c ∷ rest) p ∙ ap Some (digits_stop (min n 65535) c rest s)
     ]
-
-past_that : (c : ℕ) (rest : List ℕ) → past_byte c (c ∷ rest) ≡ Some rest
-unfolding past_byte
-past_that c rest = rw (eq-eqb c c refl)
 
 number_then_text : (n c : ℕ) (rest : List ℕ) → n < 2 ^ 64 → is_digit c ≡ false → number_then c (decimal n ++ (c ∷ rest)) ≡ Some (min n 65535, rest)
 number_then_text n c rest h s = rw (number_text n c rest h s, past_that c rest)

@@ -110,10 +110,7 @@ fn number(bytes: &[u8]) -> Option<(u16, &[u8])>
 fn past(byte: u8, bytes: &[u8]) -> Option<&[u8]>
     ensures { option_map (λ x. x.now) result ≡ past_byte byte bytes.now }
 {
-    match bytes {
-        [first, rest @ ..] if *first == byte => Some(rest),
-        _ => None,
-    }
+    bytes.strip_prefix(&[byte])
 }
 
 // A number with the byte `end` after it, and what stands after that.
@@ -152,6 +149,7 @@ pub fn read_limits(line: &[u8]) -> Result<Limits, LineRefusal>
     limits_in(line)
 }
 
+// What `read_limits` gives. Its other clauses follow from this one, so they are shown at one return.
 fn limits_in(line: &[u8]) -> Result<Limits, LineRefusal>
     ensures { result ≡ read_line line.now }
 {
