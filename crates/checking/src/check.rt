@@ -6,7 +6,7 @@ use crate::monitor::{Monitor, OpenError};
 use logfile::{Frame, LENGTH_BYTES, Limits, cut_at, frame_at, read_limits};
 use options::CheckOptions;
 use std::fs;
-use std::io::{BufWriter, Read, Write};
+use std::io::{Read, Write};
 use summary::{AnswerText, Summary};
 use wire::Answer;
 
@@ -21,23 +21,25 @@ const PROGRESS_EVENTS: u64 = 1_000_000;
 // No first line is longer.
 const FIRST_LINE_BYTES: usize = 64;
 
-// Prints the answers of a monitor to a log, as the options ask for, and what they come to.
-pub fn check_log<'a, M: Monitor>(
+// Writes the answers of a monitor to a log, as the options ask for, and says what they come to.
+pub fn check_log<'a, M: Monitor, W: Write>(
     rt: &HostRuntime,
     options: CheckOptions<'a>,
+    out: &mut W,
 ) -> Result<Summary, CheckError<'a>> {
     if options.log == "-" {
-        return check_source::<M, _>(rt, options, STANDARD_INPUT, rt.stdin());
+        return check_source::<M, _, _>(rt, options, STANDARD_INPUT, rt.stdin(), out);
     }
     let file = fs::open(rt, options.log).map_err(|e| CheckError::Io(options.log, e))?;
-    check_source::<M, _>(rt, options, options.log, file)
+    check_source::<M, _, _>(rt, options, options.log, file, out)
 }
 
-fn check_source<'a, M: Monitor, R: Read + Drop>(
+fn check_source<'a, M: Monitor, R: Read + Drop, W: Write>(
     rt: &HostRuntime,
     options: CheckOptions<'a>,
     name: &'a str,
     source: R,
+    out: &mut W,
 ) -> Result<Summary, CheckError<'a>> {
     let key = sum_key(rt, options.key)?;
     let mut input = Input::new(rt.alloc(), name, source)?;
@@ -46,7 +48,7 @@ fn check_source<'a, M: Monitor, R: Read + Drop>(
         OpenError::NoMemory => CheckError::NoMemoryForLimits(name),
         OpenError::OutOfRange => CheckError::LimitsOutOfRange(name),
     })?;
-    let summary = check_events(rt, options, &mut input, &mut monitor)?;
+    let summary = check_events(rt, options, &mut input, &mut monitor, out)?;
     rt.eprintln(summary)
         .map_err(|e| CheckError::Io(STANDARD_ERROR, e))?;
     Ok(summary)
@@ -67,14 +69,14 @@ fn first_line<'a, R: Read + Drop>(input: &mut Input<'a, R>) -> Result<Limits, Ch
     Ok(limits)
 }
 
-fn check_events<'a, M: Monitor, R: Read + Drop>(
+fn check_events<'a, M: Monitor, R: Read + Drop, W: Write>(
     rt: &HostRuntime,
     options: CheckOptions<'a>,
     input: &mut Input<'a, R>,
     monitor: &mut M,
+    out: &mut W,
 ) -> Result<Summary, CheckError<'a>> {
     let unwritten = |e| CheckError::Io(STANDARD_OUTPUT, e);
-    let mut out = BufWriter::new(rt.alloc(), rt.stdout()).map_err(unwritten)?;
     let mut summary = Summary::new();
     // Reading on until the input ends has no measure. No log has more events than this.
     for _ in 0..u64::MAX {
@@ -86,7 +88,7 @@ fn check_events<'a, M: Monitor, R: Read + Drop>(
             let text = AnswerText(answer);
             writeln!(out, "{text}").map_err(unwritten)?;
         }
-        if options.progress && summary.events % PROGRESS_EVENTS == 0 {
+        if options.progress && summary.events.is_multiple_of(PROGRESS_EVENTS) {
             let events = summary.events;
             eprintln!(rt; "{events} events").map_err(|e| CheckError::Io(STANDARD_ERROR, e))?;
         }

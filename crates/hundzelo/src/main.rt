@@ -9,6 +9,7 @@ use failure::Failure;
 use options::{Command, parse};
 use rules::Rules;
 use std::env;
+use std::io::{BufWriter, Write};
 use std::process::ExitCode;
 
 const VERSION: &str = "hundzelo 0.1.0";
@@ -38,7 +39,11 @@ fn arguments(rt: &HostRuntime) -> Result<Vec<String>, Failure<'static>> {
         .map_err(|_| Failure::NoMemory("the arguments"))
 }
 
-fn run<'a>(rt: &HostRuntime, args: &'a [String]) -> Result<ExitCode, Failure<'a>> {
+fn run<'a, W: Write>(
+    rt: &HostRuntime,
+    args: &'a [String],
+    out: &mut W,
+) -> Result<ExitCode, Failure<'a>> {
     let words = args
         .iter()
         .skip(1)
@@ -49,7 +54,7 @@ fn run<'a>(rt: &HostRuntime, args: &'a [String]) -> Result<ExitCode, Failure<'a>
         Command::Help => print(rt, HELP),
         Command::Version => print(rt, VERSION),
         Command::Check(options) => {
-            let summary = check_log::<Rules>(rt, options)?;
+            let summary = check_log::<Rules, _>(rt, options, out)?;
             if summary.is_wrong() && !options.no_fail {
                 return Ok(ExitCode::FAILURE);
             }
@@ -75,5 +80,10 @@ fn main(rt: HostRuntime) -> ExitCode {
         Ok(args) => args,
         Err(failure) => return told(&rt, failure),
     };
-    run(&rt, args.as_slice()).unwrap_or_else(|failure| told(&rt, failure))
+    // It outlives a failure: answers that are still in it are written after what is said of that.
+    let mut out = match BufWriter::new(rt.alloc(), rt.stdout()) {
+        Ok(out) => out,
+        Err(e) => return told(&rt, Failure::Io("standard output", e)),
+    };
+    run(&rt, args.as_slice(), &mut out).unwrap_or_else(|failure| told(&rt, failure))
 }

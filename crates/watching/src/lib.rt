@@ -8,6 +8,7 @@ use checking::{CheckError, Monitor, OpenError};
 use logfile::Limits;
 use options::CheckOptions;
 use std::alloc::Global;
+use std::io::Write;
 use summary::Summary;
 use watch::{open, take, take_cut, words_needed};
 use wire::Answer;
@@ -48,10 +49,11 @@ impl Monitor for Watched {
     }
 }
 
-// Prints the answers to a log, as the options ask for, and what they come to.
-pub fn check_log<'a>(
+// Writes the answers to a log, as the options ask for, and says what they come to.
+pub fn check_log<'a, W: Write>(
     rt: &HostRuntime,
     options: CheckOptions<'a>,
+    out: &mut W,
 ) -> Result<Summary, CheckError<'a>> {
-    checking::check_log::<Watched>(rt, options)
+    checking::check_log::<Watched, _>(rt, options, out)
 }
