@@ -1,16 +1,14 @@
 // Checks a whole log: its first line, then its events one by one.
-ghost use Rattle.std.specs.Prelude.{◌≡◌, ◌≤◌, length};
-
-use crate::events::next_answer;
+use crate::error::CheckError;
+use crate::input::Input;
 use crate::key::sum_key;
-use crate::report::{Failed, complain, reported};
-use crate::window::{BUFFER_BYTES, Window, filled};
-use logfile::read_limits;
+use crate::monitor::{Monitor, OpenError};
+use logfile::{Frame, LENGTH_BYTES, Limits, cut_at, frame_at, read_limits};
 use options::CheckOptions;
 use std::fs;
-use std::io::{BufWriter, Read, Write};
+use std::io::{Read, Write};
 use summary::{AnswerText, Summary};
-use watch::{Limits, open, words_needed};
+use wire::Answer;
 
 const STANDARD_INPUT: &str = "standard input";
 
@@ -18,123 +16,115 @@ const STANDARD_OUTPUT: &str = "standard output";
 
 const STANDARD_ERROR: &str = "standard error";
 
-const OUT_OF_RANGE: &str = "the limits in its first line are out of range";
-
 const PROGRESS_EVENTS: u64 = 1_000_000;
 
 // No first line is longer.
 const FIRST_LINE_BYTES: usize = 64;
 
-pub fn check_log(rt: &HostRuntime, options: CheckOptions<'_>) -> Result<(), Failed> {
+// Writes the answers of a monitor to a log, as the options ask for, and says what they come to.
+pub fn check_log<'a, M: Monitor, W: Write>(
+    rt: &HostRuntime,
+    options: CheckOptions<'a>,
+    out: &mut W,
+) -> Result<Summary, CheckError<'a>> {
     if options.log == "-" {
-        return check_source(rt, options, STANDARD_INPUT, &mut rt.stdin());
+        return check_source::<M, _, _>(rt, options, STANDARD_INPUT, rt.stdin(), out);
     }
-    let mut file = reported(rt, options.log, fs::open(rt, options.log))?;
-    check_source(rt, options, options.log, &mut file)
+    let file = fs::open(rt, options.log).map_err(|e| CheckError::Io(options.log, e))?;
+    check_source::<M, _, _>(rt, options, options.log, file, out)
 }
 
-fn check_source<R: Read>(
+fn check_source<'a, M: Monitor, R: Read + Drop, W: Write>(
     rt: &HostRuntime,
-    options: CheckOptions<'_>,
-    name: &str,
-    source: &mut R,
-) -> Result<(), Failed> {
+    options: CheckOptions<'a>,
+    name: &'a str,
+    source: R,
+    out: &mut W,
+) -> Result<Summary, CheckError<'a>> {
     let key = sum_key(rt, options.key)?;
-    let Ok(mut buf) = vec![in rt.alloc(); 0u8; BUFFER_BYTES] else {
-        return Err(complain(rt, name, "no memory to read it"));
-    };
-    let buf = buf.as_mut_slice();
-    let (limits, held) = first_line(rt, name, source, buf)?;
-    let Some(words) = words_needed(limits) else {
-        return Err(complain(rt, name, OUT_OF_RANGE));
-    };
-    let Ok(mut memory) = vec![in rt.alloc(); 0u64; words] else {
-        return Err(complain(rt, name, "no memory for the limits in its first line"));
-    };
-    let memory = memory.as_mut_slice();
-    if !open(memory, limits, key.bytes()) {
-        return Err(complain(rt, name, OUT_OF_RANGE));
-    }
-    let summary = check_events(rt, options, name, source, buf, held, memory)?;
-    reported(rt, STANDARD_ERROR, rt.eprintln(summary))?;
-    if summary.is_wrong() && !options.no_fail {
-        return Err(Failed);
-    }
-    Ok(())
+    let mut input = Input::new(rt.alloc(), name, source)?;
+    let limits = first_line(&mut input)?;
+    let mut monitor = M::open(rt.alloc(), limits, key.bytes()).map_err(|e| match e {
+        OpenError::NoMemory => CheckError::NoMemoryForLimits(name),
+        OpenError::OutOfRange => CheckError::LimitsOutOfRange(name),
+    })?;
+    let summary = check_events(rt, options, &mut input, &mut monitor, out)?;
+    rt.eprintln(summary)
+        .map_err(|e| CheckError::Io(STANDARD_ERROR, e))?;
+    Ok(summary)
 }
 
-// The limits in the first line, and what is held after it.
-fn first_line<R: Read>(
+// Takes the first line, and reads the limits in it.
+fn first_line<'a, R: Read + Drop>(input: &mut Input<'a, R>) -> Result<Limits, CheckError<'a>> {
+    input.fill(FIRST_LINE_BYTES)?;
+    let held = input.held();
+    let held = &held[..held.len().min(FIRST_LINE_BYTES)];
+    let line = held
+        .split_inclusive(|byte| *byte == b'\n')
+        .next()
+        .unwrap_or(held);
+    let len = line.len();
+    let limits = read_limits(line).map_err(|e| CheckError::FirstLine(input.name(), e))?;
+    input.consume(len);
+    Ok(limits)
+}
+
+fn check_events<'a, M: Monitor, R: Read + Drop, W: Write>(
     rt: &HostRuntime,
-    name: &str,
-    source: &mut R,
-    buf: &mut [u8],
-) -> Result<(Limits, Window), Failed>
-    requires { length buf.old ≡ 1048576 }
-{
-    let held = reported(
-        rt,
-        name,
-        filled(source, buf, Window::new(), FIRST_LINE_BYTES),
-    )?;
-    let at = held.start();
-    let len = line_length(&buf[at..at + held.len().min(FIRST_LINE_BYTES)]);
-    match read_limits(&buf[at..at + len]) {
-        Ok(line) => {
-            let limits = Limits {
-                verifiers: line.verifiers as usize,
-                places: line.places as usize,
-                epochs: line.epochs as usize,
-            };
-            Ok((limits, held.without(len)))
-        }
-        Err(refusal) => Err(complain(rt, name, refusal)),
-    }
-}
-
-// How many bytes the first line has with its end, or all of them where it has none.
-fn line_length(bytes: &[u8]) -> usize
-    ensures within { result ≤ length bytes.now }
-{
-    for (i, byte) in bytes.iter().enumerate() {
-        if *byte == b'\n' {
-            return i + 1;
-        }
-    }
-    bytes.len()
-}
-
-fn check_events<R: Read>(
-    rt: &HostRuntime,
-    options: CheckOptions<'_>,
-    name: &str,
-    source: &mut R,
-    buf: &mut [u8],
-    held: Window,
-    memory: &mut [u64],
-) -> Result<Summary, Failed>
-    requires { length buf.old ≡ 1048576 }
-{
-    let mut out = reported(rt, STANDARD_OUTPUT, BufWriter::new(rt.alloc(), rt.stdout()))?;
+    options: CheckOptions<'a>,
+    input: &mut Input<'a, R>,
+    monitor: &mut M,
+    out: &mut W,
+) -> Result<Summary, CheckError<'a>> {
+    let unwritten = |e| CheckError::Io(STANDARD_OUTPUT, e);
     let mut summary = Summary::new();
-    let mut held = held;
-    // No log has more events than this.
+    // Reading on until the input ends has no measure. No log has more events than this.
     for _ in 0..u64::MAX {
-        let (answer, after) = reported(rt, name, next_answer(source, buf, held, memory))?;
-        let Some(answer) = answer else {
+        let Some(answer) = next_answer(input, monitor)? else {
             break;
         };
-        held = after;
         summary.count(answer);
         if !options.quiet {
             let text = AnswerText(answer);
-            reported(rt, STANDARD_OUTPUT, writeln!(out, "{text}"))?;
+            writeln!(out, "{text}").map_err(unwritten)?;
         }
-        if options.progress && summary.events % PROGRESS_EVENTS == 0 {
+        if options.progress && summary.events.is_multiple_of(PROGRESS_EVENTS) {
             let events = summary.events;
-            reported(rt, STANDARD_ERROR, eprintln!(rt; "{events} events"))?;
+            eprintln!(rt; "{events} events").map_err(|e| CheckError::Io(STANDARD_ERROR, e))?;
         }
     }
-    reported(rt, STANDARD_OUTPUT, out.flush())?;
+    out.flush().map_err(unwritten)?;
     Ok(summary)
+}
+
+// The answer to the next event, or none at the log's end.
+fn next_answer<'a, M: Monitor, R: Read + Drop>(
+    input: &mut Input<'a, R>,
+    monitor: &mut M,
+) -> Result<Option<Answer>, CheckError<'a>> {
+    read_event(input)?;
+    let held = input.held();
+    match frame_at(held) {
+        Ok(Frame { kept, passed }) => {
+            let answer = monitor.take(&held[LENGTH_BYTES..LENGTH_BYTES + kept]);
+            input.consume(LENGTH_BYTES + kept);
+            input.skip(passed)?;
+            Ok(Some(answer))
+        }
+        Err(_) => {
+            let cut = cut_at(held);
+            let len = held.len();
+            input.consume(len);
+            Ok(cut.map(|len| monitor.take_cut(len)))
+        }
+    }
+}
+
+// Reads until a whole event is held, or the input ends.
+fn read_event<'a, R: Read + Drop>(input: &mut Input<'a, R>) -> Result<(), CheckError<'a>> {
+    input.fill(LENGTH_BYTES)?;
+    if let Err(short) = frame_at(input.held()) {
+        input.fill(short.wanted)?;
+    }
+    Ok(())
 }

@@ -1,9 +1,9 @@
 // The secret key of the sums.
-use crate::report::{Failed, complain, reported};
+use crate::error::CheckError;
+use std::fs;
 use std::io::{ErrorKind, Read};
-use std::{fs, io};
 
-const KEY_BYTES: usize = 32;
+pub const KEY_BYTES: usize = 32;
 
 const RANDOM_BYTES: &str = "/dev/urandom";
 
@@ -18,40 +18,33 @@ impl SumKey {
 }
 
 // A key file has the key and nothing else; without one the key is drawn afresh.
-pub fn sum_key(rt: &HostRuntime, file: Option<&str>) -> Result<SumKey, Failed> {
+pub fn sum_key<'a>(rt: &HostRuntime, file: Option<&'a str>) -> Result<SumKey, CheckError<'a>> {
     match file {
-        None => {
-            let mut source = reported(rt, RANDOM_BYTES, fs::open(rt, RANDOM_BYTES))?;
-            let mut key = [0u8; KEY_BYTES];
-            reported(rt, RANDOM_BYTES, source.read_exact(&mut key))?;
-            Ok(SumKey(key))
-        }
-        Some(name) => {
-            let mut source = reported(rt, name, fs::open(rt, name))?;
-            match reported(rt, name, whole_key(&mut source))? {
-                Some(key) => Ok(key),
-                None => Err(complain(rt, name, "a key file has exactly 32 bytes")),
-            }
-        }
+        None => drawn_key(rt),
+        Some(name) => key_in(rt, name),
     }
 }
 
-// The key, if it is all that can be read.
-fn whole_key<R: Read>(source: &mut R) -> io::Result<Option<SumKey>> {
+fn drawn_key<'a>(rt: &HostRuntime) -> Result<SumKey, CheckError<'a>> {
+    let unread = |e| CheckError::Io(RANDOM_BYTES, e);
+    let mut source = fs::open(rt, RANDOM_BYTES).map_err(unread)?;
     let mut key = [0u8; KEY_BYTES];
-    match source.read_exact(&mut key) {
-        Ok(()) => {}
-        Err(e) => {
-            return if e.kind() == ErrorKind::UnexpectedEof {
-                Ok(None)
-            } else {
-                Err(e)
-            };
-        }
-    }
+    source.read_exact(&mut key).map_err(unread)?;
+    Ok(SumKey(key))
+}
+
+// The key, if it is all that can be read.
+fn key_in<'a>(rt: &HostRuntime, name: &'a str) -> Result<SumKey, CheckError<'a>> {
+    let mut source = fs::open(rt, name).map_err(|e| CheckError::Io(name, e))?;
+    let mut key = [0u8; KEY_BYTES];
+    source.read_exact(&mut key).map_err(|e| match e.kind() {
+        ErrorKind::UnexpectedEof => CheckError::KeyLength(name),
+        _ => CheckError::Io(name, e),
+    })?;
     let mut more = [0u8; 1];
-    if source.read(&mut more)? > 0 {
-        return Ok(None);
+    match source.read(&mut more) {
+        Ok(0) => Ok(SumKey(key)),
+        Ok(_) => Err(CheckError::KeyLength(name)),
+        Err(e) => Err(CheckError::Io(name, e)),
     }
-    Ok(Some(SumKey(key)))
 }

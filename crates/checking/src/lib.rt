@@ -2,10 +2,11 @@
 #![tactic(auto)]
 
 mod check;
-mod events;
+mod error;
+mod input;
 mod key;
-mod report;
-mod window;
+mod monitor;
 
 pub use check::check_log;
-pub use report::{Failed, complain, complain_of_use, reported};
+pub use error::CheckError;
+pub use monitor::{Monitor, OpenError};

@@ -1,16 +1,15 @@
 // Checks the log that a store's keeper writes: `hundzelo check LOG`.
 #![tactic(auto)]
 
-mod check;
-mod events;
-mod key;
-mod report;
-mod window;
+mod failure;
+mod rules;
 
-use check::check_log;
+use checking::check_log;
+use failure::Failure;
 use options::{Command, parse};
-use report::{Failed, complain, complain_of_use, reported};
+use rules::Rules;
 use std::env;
+use std::io::{BufWriter, Write};
 use std::process::ExitCode;
 
 const VERSION: &str = "hundzelo 0.1.0";
@@ -33,36 +32,58 @@ Options:
 The summary goes to standard error. The status is 0, or 1 if the log was wrong
 or could not be checked.";
 
-fn run(rt: &HostRuntime, words: &[&str]) -> Result<(), Failed> {
-    match parse(words) {
-        Ok(Command::Help) => reported(rt, "standard output", rt.println(HELP)),
-        Ok(Command::Version) => reported(rt, "standard output", rt.println(VERSION)),
-        Ok(Command::Check(options)) => check_log(rt, options),
-        Err(misuse) => Err(complain_of_use(rt, misuse)),
-    }
+fn arguments(rt: &HostRuntime) -> Result<Vec<String>, Failure<'static>> {
+    env::args(rt)
+        .map_err(|e| Failure::Io("the arguments", e))?
+        .collect::<Vec<String>>(rt.alloc())
+        .map_err(|_| Failure::NoMemory("the arguments"))
 }
 
-fn run_program(rt: &HostRuntime) -> Result<(), Failed> {
-    let args = match env::args(rt) {
-        Ok(args) => args,
-        Err(e) => return Err(complain(rt, "the arguments", e)),
-    };
-    let Ok(args) = args.collect::<Vec<String>>(rt.alloc()) else {
-        return Err(complain(rt, "the arguments", "no memory"));
-    };
-    let mut words = Vec::new(rt.alloc());
-    for arg in args.as_slice().iter().skip(1) {
-        if words.push(arg.as_str()).is_err() {
-            return Err(complain(rt, "the arguments", "no memory"));
+fn run<'a, W: Write>(
+    rt: &HostRuntime,
+    args: &'a [String],
+    out: &mut W,
+) -> Result<ExitCode, Failure<'a>> {
+    let words = args
+        .iter()
+        .skip(1)
+        .map(|arg| arg.as_str())
+        .collect::<Vec<&str>>(rt.alloc())
+        .map_err(|_| Failure::NoMemory("the arguments"))?;
+    match parse(words.as_slice())? {
+        Command::Help => print(rt, HELP),
+        Command::Version => print(rt, VERSION),
+        Command::Check(options) => {
+            let summary = check_log::<Rules, _>(rt, options, out)?;
+            if summary.is_wrong() && !options.no_fail {
+                return Ok(ExitCode::FAILURE);
+            }
+            Ok(ExitCode::SUCCESS)
         }
     }
-    run(rt, words.as_slice())
 }
 
-// An `Err` from here would be printed, and what went wrong was said already.
+fn print<'a>(rt: &HostRuntime, text: &str) -> Result<ExitCode, Failure<'a>> {
+    rt.println(text)
+        .map_err(|e| Failure::Io("standard output", e))?;
+    Ok(ExitCode::SUCCESS)
+}
+
+// Says in one line what went wrong. Where standard error is closed, the status still tells.
+fn told(rt: &HostRuntime, failure: Failure<'_>) -> ExitCode {
+    let _ = eprintln!(rt; "hundzelo: {failure}");
+    ExitCode::FAILURE
+}
+
 fn main(rt: HostRuntime) -> ExitCode {
-    match run_program(&rt) {
-        Ok(()) => ExitCode::SUCCESS,
-        Err(_) => ExitCode::FAILURE,
-    }
+    let args = match arguments(&rt) {
+        Ok(args) => args,
+        Err(failure) => return told(&rt, failure),
+    };
+    // It outlives a failure: answers that are still in it are written after what is said of that.
+    let mut out = match BufWriter::new(rt.alloc(), rt.stdout()) {
+        Ok(out) => out,
+        Err(e) => return told(&rt, Failure::Io("standard output", e)),
+    };
+    run(&rt, args.as_slice(), &mut out).unwrap_or_else(|failure| told(&rt, failure))
 }

@@ -1,13 +1,10 @@
 -- The text of three numbers is read as those numbers.
-use Rattle.std.proofs.Common.{◌≡◌, ℕ, zero, suc, ◌+◌, ◌-◌, ◌*◌, ◌/◌, ◌%◌, ◌^◌, ◌<◌, ◌≤◌, min, true, false, ◌⊎◌, List, [], ◌∷◌, ◌++◌, Some, decimal, refl, ap, ◌∙◌, inl, inr, append_assoc, arith}
+use Rattle.std.proofs.Common.{◌≡◌, ℕ, zero, suc, ◌+◌, ◌-◌, ◌*◌, ◌/◌, ◌%◌, ◌^◌, ◌<◌, ◌≤◌, min, false, ◌⊎◌, List, [], ◌∷◌, ◌++◌, Some, decimal, refl, ap, ◌∙◌, inl, inr, append_assoc, arith}
 use Rattle.std.proofs.lemmas.Fmt.{decimal_by_steps, decimal_digit}
-use Rattle.std.proofs.lemmas.Bool.{eq-eqb, ne_eqb}
+use Rattle.std.proofs.lemmas.Bool.{ne_eqb}
 use Rattle.std.proofs.lemmas.Bool.Decides.{nat_tests}
-use Rattle.logfile.specs.FirstLine.{digits_on, is_digit, number_at, past_byte, number_then, in_range, line_text, read_line}
-use Rattle.logfile.proofs.Digits.{digits_more, digits_stop}
-
-digit_is : (d : ℕ) → d < 10 → is_digit (48 + d) ≡ true
-digit_is d h = grind (arith, nat_tests)
+use Rattle.logfile.specs.FirstLine.{digits_on, is_digit, number_at, number_then, in_range, line_text, read_line}
+use Rattle.logfile.proofs.Digits.{past_that, digit_is, digits_more, digits_stop}
 
 number_first : (n : ℕ) (rest : List ℕ) → 0 < n → n < 10 → number_at ((48 + n) ∷ rest) ≡ Some (digits_on (min n 65535) rest)
 unfolding number_at
@@ -15,7 +12,7 @@ number_first n rest p h =
     let e : 48 + n - 48 ≡ n = omega arith in
     let m : min n 65535 ≡ n = omega arith in
     let ne : 48 + n ≡ 48 → ⊥ = λ q. omega arith in
-    rw (ne_eqb (48 + n) 48 ne, digit_is n h, e, m)
+    rw (ne_eqb (48 + n) 48 ne, digit_is (48 + n) (omega arith) (omega arith), e, m)
 
 capped : (n : ℕ) → min (min (n / 10) 65535 * 10 + (48 + n % 10 - 48)) 65535 ≡ min n 65535
 capped n = omega arith
@@ -30,7 +27,7 @@ begins_more n ds h b rest p =
     let q : 0 < n / 10 = omega arith in
     let e : (ds ++ ((48 + n % 10) ∷ [])) ++ rest ≡ ds ++ ((48 + n % 10) ∷ rest) = append_assoc ds ((48 + n % 10) ∷ []) rest in
     let f = b ((48 + n % 10) ∷ rest) q in
-    let g = digits_more (min (n / 10) 65535) (48 + n % 10) rest (digit_is (n % 10) d) in
+    let g = digits_more (min (n / 10) 65535) (48 + n % 10) rest (digit_is (48 + n % 10) (omega arith) (omega arith)) in
     let c = capped n in
     cc
 
@@ -58,10 +55,6 @@ number_text n c rest h s =
       | inl e ↦ number_zero_text n (c ∷ rest) e
       | inr p ↦ begins n h (c ∷ rest) p ∙ ap Some (digits_stop (min n 65535) c rest s)
     ]
-
-past_that : (c : ℕ) (rest : List ℕ) → past_byte c (c ∷ rest) ≡ Some rest
-unfolding past_byte
-past_that c rest = rw (eq-eqb c c refl)
 
 number_then_text : (n c : ℕ) (rest : List ℕ) → n < 2 ^ 64 → is_digit c ≡ false → number_then c (decimal n ++ (c ∷ rest)) ≡ Some (min n 65535, rest)
 number_then_text n c rest h s = rw (number_text n c rest h s, past_that c rest)

@@ -78,31 +78,31 @@ number_cases c cs n rest k true b z d e =
     cc
 number_cases c cs n rest k false true z d e =
     number_first_is c cs n rest (eqb-false c 48 z) (digit_between c d) (some_is (digits_on (c - 48) cs) (n, rest) e) k
-number_cases c cs n rest k false false z d e = let w : ◌≡◌ {A = ℕ} 0 1 = cc in absurd (omega arith)
+number_cases c cs n rest k false false z d e = cc
 
 number_is : (xs : List ℕ) (n : ℕ) (rest : List ℕ) → number_at xs ≡ Some (n, rest) → n < 65535 → xs ≡ decimal n ++ rest
 unfolding number_at
-number_is [] n rest e k = let w : ◌≡◌ {A = ℕ} 0 1 = cc in absurd (omega arith)
+number_is [] n rest e k = cc
 number_is (c ∷ cs) n rest e k = number_cases c cs n rest k (eqb c 48) (is_digit c) refl refl e
 
 past_cases : (b c : ℕ) (cs rest : List ℕ) (t : Bool) → eqb c b ≡ t → cond t (Some cs) None ≡ Some rest → c ∷ cs ≡ b ∷ rest
 past_cases b c cs rest true z e = let h = eqb-true c b z in cc
-past_cases b c cs rest false z e = let w : ◌≡◌ {A = ℕ} 0 1 = cc in absurd (omega arith)
+past_cases b c cs rest false z e = cc
 
 past_is : (b : ℕ) (xs rest : List ℕ) → past_byte b xs ≡ Some rest → xs ≡ b ∷ rest
 unfolding past_byte
-past_is b [] rest e = let w : ◌≡◌ {A = ℕ} 0 1 = cc in absurd (omega arith)
+past_is b [] rest e = cc
 past_is b (c ∷ cs) rest e = past_cases b c cs rest (eqb c b) refl e
 
 rest_is : (b m n : ℕ) (ys rest : List ℕ) (o : Option (List ℕ)) → past_byte b ys ≡ o → and_rest m o ≡ Some (n, rest) → (m ≡ n) × (ys ≡ b ∷ rest)
-rest_is b m n ys rest None p e = let w : ◌≡◌ {A = ℕ} 0 1 = cc in absurd (omega arith)
+rest_is b m n ys rest None p e = cc
 rest_is b m n ys rest (Some zs) p e =
     let q = some_is (m, zs) (n, rest) e in
     let r : zs ≡ rest = ap (λ (x : ℕ × List ℕ). x.1) q in
     (same_first (m, zs) (n, rest) q, past_is b ys zs p ∙ ap (λ (xs : List ℕ). b ∷ xs) r)
 
 then_cases : (b : ℕ) (xs : List ℕ) (n : ℕ) (rest : List ℕ) (o : Option (ℕ × List ℕ)) → number_at xs ≡ o → and_past b o ≡ Some (n, rest) → n < 65535 → xs ≡ decimal n ++ (b ∷ rest)
-then_cases b xs n rest None h e k = let w : ◌≡◌ {A = ℕ} 0 1 = cc in absurd (omega arith)
+then_cases b xs n rest None h e k = cc
 then_cases b xs n rest (Some x) h e k =
     let q = rest_is b x.0 n x.1 rest (past_byte b x.1) refl e in
     let t = number_is xs x.0 x.1 h (omega (arith, q.0)) in
@@ -125,9 +125,9 @@ record Are (v p e : ℕ) (l : Limits) : Type 0 where
 
 range_cases : (v p e : ℕ) (l : Limits) (a b c : Bool) → outside 1 64 v ≡ a → outside 2 32768 p ≡ b → outside 2 16 e ≡ c
     → cond a (Err Verifiers) (cond b (Err Places) (cond c (Err Epochs) (Ok (record { verifiers = v; places = p; epochs = e })))) ≡ Ok l → Are v p e l
-range_cases v p e l true b c ha hb hc q = let w : ◌≡◌ {A = ℕ} 0 1 = cc in absurd (omega arith)
-range_cases v p e l false true c ha hb hc q = let w : ◌≡◌ {A = ℕ} 0 1 = cc in absurd (omega arith)
-range_cases v p e l false false true ha hb hc q = let w : ◌≡◌ {A = ℕ} 0 1 = cc in absurd (omega arith)
+range_cases v p e l true b c ha hb hc q = cc
+range_cases v p e l false true c ha hb hc q = cc
+range_cases v p e l false false true ha hb hc q = cc
 range_cases v p e l false false false ha hb hc q =
     let m : Limits = record { verifiers = v; places = p; epochs = e } in
     let s : m ≡ l = cc in
@@ -145,12 +145,12 @@ range_is v p e l q = range_cases v p e l (outside 1 64 v) (outside 2 32768 p) (o
 
 end_is : (zs : List ℕ) (r : Result Limits LineRefusal) (l : Limits) → at_end zs r ≡ Ok l → (zs ≡ []) × (r ≡ Ok l)
 end_is [] r l q = (refl, q)
-end_is (z ∷ zs) r l q = let w : ◌≡◌ {A = ℕ} 0 1 = cc in absurd (omega arith)
+end_is (z ∷ zs) r l q = cc
 
 -- from the last number to the first
 third : (v p : ℕ) (ys : List ℕ) (l : Limits) (o : Option (ℕ × List ℕ)) → number_then 10 ys ≡ o → and_then o (λ e zs. at_end zs (in_range v p e)) ≡ Ok l
     → Are v p l.epochs l × (ys ≡ decimal l.epochs ++ (10 ∷ []))
-third v p ys l None h q = let w : ◌≡◌ {A = ℕ} 0 1 = cc in absurd (omega arith)
+third v p ys l None h q = cc
 third v p ys l (Some x) h q =
     let n = end_is x.1 (in_range v p x.0) l q in
     let r = range_is v p x.0 l n.1 in
@@ -160,7 +160,7 @@ third v p ys l (Some x) h q =
 
 second : (v : ℕ) (xs : List ℕ) (l : Limits) (o : Option (ℕ × List ℕ)) → number_then 32 xs ≡ o → and_then o (λ p ys. and_then (number_then 10 ys) (λ e zs. at_end zs (in_range v p e))) ≡ Ok l
     → (v ≡ l.verifiers) × (v < 65535) × (xs ≡ decimal l.places ++ (32 ∷ (decimal l.epochs ++ (10 ∷ []))))
-second v xs l None h q = let w : ◌≡◌ {A = ℕ} 0 1 = cc in absurd (omega arith)
+second v xs l None h q = cc
 second v xs l (Some x) h q =
     let n = third v x.0 x.1 l (number_then 10 x.1) refl q in
     let t = then_is 32 xs x.0 x.1 h n.0.p_low in
@@ -170,7 +170,7 @@ second v xs l (Some x) h q =
 first : (line : List ℕ) (l : Limits) (o : Option (ℕ × List ℕ)) → number_then 32 line ≡ o
     → and_then o (λ v xs. and_then (number_then 32 xs) (λ p ys. and_then (number_then 10 ys) (λ e zs. at_end zs (in_range v p e)))) ≡ Ok l
     → line ≡ line_text l.verifiers l.places l.epochs
-first line l None h q = let w : ◌≡◌ {A = ℕ} 0 1 = cc in absurd (omega arith)
+first line l None h q = cc
 first line l (Some x) h q =
     let n = second x.0 x.1 l (number_then 32 x.1) refl q in
     let t = then_is 32 line x.0 x.1 h n.1 in

@@ -1,7 +1,7 @@
 -- Where the events of a log file begin and end.
-use Rattle.std.specs.Prelude.{ℕ, ◌+◌, ◌-◌, ◌*◌, min, cond, List, length, Some, None, Option, ◌==◌, nat_lt, slice_index}
+use Rattle.std.specs.Prelude.{ℕ, ◌+◌, ◌-◌, ◌*◌, min, cond, List, length, Some, None, Ok, Err, Option, Result, ◌==◌, nat_lt, slice_index}
 use Rattle.logfile.specs.declared.frame.Frame.{Frame}
-use Rattle.logfile.specs.declared.frame.Frame.TheVariants.{Short, Whole}
+use Rattle.logfile.specs.declared.frame.Short.{Short}
 
 -- the event's length, low byte first
 abbrev pub length_at : List ℕ → ℕ
@@ -11,11 +11,12 @@ length_at xs = slice_index xs 0 + slice_index xs 1 * 256 + slice_index xs 2 * 65
 abbrev pub kept : ℕ → ℕ
 kept n = min n 262228
 
-abbrev pub framed : List ℕ → Frame
+-- the event that the bytes begin with, or how many bytes it needs at least
+abbrev pub framed : List ℕ → Result Frame Short
 framed xs =
-    cond (nat_lt (length xs) 4) (Short 4)
-    (cond (nat_lt (length xs) (4 + kept (length_at xs))) (Short (4 + kept (length_at xs)))
-    (Whole (kept (length_at xs)) (length_at xs - kept (length_at xs))))
+    cond (nat_lt (length xs) 4) (Err (record { wanted = 4 }))
+    (cond (nat_lt (length xs) (4 + kept (length_at xs))) (Err (record { wanted = 4 + kept (length_at xs) }))
+    (Ok (record { kept = kept (length_at xs); passed = length_at xs - kept (length_at xs) })))
 
 -- where the file ends after these bytes: how many of them are an event's
 abbrev pub cut_at : List ℕ → Option ℕ

@@ -8,27 +8,35 @@ pub const LENGTH_BYTES: usize = 4;
 // The longest event that means anything, and a byte: with them the answer to a longer one is decided.
 pub const KEPT_BYTES: usize = 262_228;
 
-// How far the event reaches that bytes begin with.
+// The event that bytes begin with: how many of its bytes are kept, and how many after them are passed over.
 #[derive(Clone, Copy, Debug, PartialEq, Eq)]
-pub enum Frame {
-    // It needs at least so many bytes, with its length.
-    Short(usize),
-    // How many of its bytes are kept, and how many after them are passed over.
-    Whole(usize, usize),
+pub struct Frame {
+    pub kept: usize,
+    pub passed: usize,
 }
 
-pub fn frame_at(bytes: &[u8]) -> Frame
+// Bytes too few for the event that they begin: with its length it needs at least so many.
+#[derive(Clone, Copy, Debug, PartialEq, Eq)]
+pub struct Short {
+    pub wanted: usize,
+}
+
+pub fn frame_at(bytes: &[u8]) -> Result<Frame, Short>
     ensures { result ≡ framed bytes.now }
 {
-    if bytes.len() < LENGTH_BYTES {
-        return Frame::Short(LENGTH_BYTES);
-    }
-    let len = u32::from_le_bytes([bytes[0], bytes[1], bytes[2], bytes[3]]) as usize;
+    let length = bytes.first_chunk().ok_or(Short {
+        wanted: LENGTH_BYTES,
+    })?;
+    let len = u32::from_le_bytes(*length) as usize;
     let kept = len.min(KEPT_BYTES);
-    if bytes.len() < LENGTH_BYTES + kept {
-        return Frame::Short(LENGTH_BYTES + kept);
+    let wanted = LENGTH_BYTES + kept;
+    if bytes.len() < wanted {
+        return Err(Short { wanted });
     }
-    Frame::Whole(kept, len - kept)
+    Ok(Frame {
+        kept,
+        passed: len - kept,
+    })
 }
 
 // How many bytes an event has that the file's end cuts short after these, or none where it ends before an event.
@@ -47,10 +55,16 @@ mod tests {
 
     #[test]
     fn frames_are_told(rt: HostRuntime) {
-        assert_eq!(rt; frame_at(b"\x02\x00\x00"), Frame::Short(4));
-        assert_eq!(rt; frame_at(b"\x02\x00\x00\x00a"), Frame::Short(6));
-        assert_eq!(rt; frame_at(b"\x02\x00\x00\x00abc"), Frame::Whole(2, 0));
-        assert_eq!(rt; frame_at(b"\x00\x00\x00\x01a"), Frame::Short(262_232));
+        assert_eq!(rt; frame_at(b"\x02\x00\x00"), Err(Short { wanted: 4 }));
+        assert_eq!(rt; frame_at(b"\x02\x00\x00\x00a"), Err(Short { wanted: 6 }));
+        assert_eq!(rt;
+            frame_at(b"\x02\x00\x00\x00abc"),
+            Ok(Frame { kept: 2, passed: 0 })
+        );
+        assert_eq!(rt;
+            frame_at(b"\x00\x00\x00\x01a"),
+            Err(Short { wanted: 262_232 })
+        );
         assert_eq!(rt; cut_at(b""), None);
         assert_eq!(rt; cut_at(b"\x02\x00"), Some(0));
         assert_eq!(rt; cut_at(b"\x02\x00\x00\x00a"), Some(1));

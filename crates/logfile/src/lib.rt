@@ -4,5 +4,5 @@
 mod frame;
 mod limits;
 
-pub use frame::{Frame, LENGTH_BYTES, cut_at, frame_at};
+pub use frame::{Frame, LENGTH_BYTES, Short, cut_at, frame_at};
 pub use limits::{Limits, LineRefusal, read_limits};

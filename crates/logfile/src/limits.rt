@@ -1,7 +1,7 @@
 // The first line of a log file: the limits that it is written under.
 ghost use Rattle.std.specs.Prelude.{◌≡◌, ℕ, ◌^◌, ◌<◌, IfOk};
 ghost use Rattle.std.specs.Option.{option_map};
-ghost use Rattle.logfile.specs.FirstLine.{is_digit, digits_on, number_at, past_byte, number_then, in_range, line_text, read_line, words_for};
+ghost use Rattle.logfile.specs.FirstLine.{digits_on, number_at, past_byte, number_then, in_range, line_text, read_line, words_for};
 
 use std::fmt;
 
@@ -10,9 +10,6 @@ const MAX_VERIFIERS: u16 = 64;
 const MAX_PLACES: u16 = 32_768;
 
 const MAX_EPOCHS: u16 = 16;
-
-// Past every range: what is read for a larger number.
-const ENOUGH: u32 = 65_535;
 
 const PLACE_WORDS: usize = 192;
 
@@ -72,9 +69,9 @@ impl Limits {
     pub fn memory_words(self) -> usize
         ensures { result ≡ words_for self }
     {
-        let verifiers = self.verifiers as usize;
-        let places = self.places as usize;
-        let epochs = self.epochs as usize;
+        let verifiers = usize::from(self.verifiers);
+        let places = usize::from(self.places);
+        let epochs = usize::from(self.epochs);
         PLACE_WORDS * (verifiers * places)
             + VERIFIER_WORDS * verifiers
             + EPOCH_WORDS * epochs
@@ -82,78 +79,58 @@ impl Limits {
     }
 }
 
-fn is_digit(byte: u8) -> bool
-    ensures { result ≡ is_digit byte }
-{
-    b'0' <= byte && byte <= b'9'
-}
-
 // The number that `start` becomes with the digits in front put behind its own, and what stands after them.
+// It ends at the largest u16, which is past every range.
 fn with_digits(start: u16, bytes: &[u8]) -> (u16, &[u8])
     ensures { (result.0, result.1.now) ≡ digits_on start bytes.now }
 {
     let mut n = start;
-    let mut i = 0;
-    while i < bytes.len() && is_digit(bytes[i]) {
-        let longer = n as u32 * 10 + (bytes[i] - b'0') as u32;
-        n = longer.min(ENOUGH) as u16;
-        i += 1;
+    let mut rest = bytes;
+    while let [digit @ b'0'..=b'9', after @ ..] = rest {
+        n = n
+            .saturating_mul(10)
+            .saturating_add(u16::from(*digit - b'0'));
+        rest = after;
     }
-    (n, &bytes[i..])
+    (n, rest)
 }
 
 // A number with no zero in front of it, and what stands after it.
 fn number(bytes: &[u8]) -> Option<(u16, &[u8])>
     ensures { option_map (λ x. (x.0, x.1.now)) result ≡ number_at bytes.now }
 {
-    let [first, rest @ ..] = bytes else {
-        return None;
-    };
-    if *first == b'0' {
-        return Some((0, rest));
+    match bytes {
+        [b'0', rest @ ..] => Some((0, rest)),
+        [digit @ b'1'..=b'9', rest @ ..] => Some(with_digits(u16::from(*digit - b'0'), rest)),
+        _ => None,
     }
-    if !is_digit(*first) {
-        return None;
-    }
-    Some(with_digits((*first - b'0') as u16, rest))
 }
 
 // What stands after the byte.
 fn past(byte: u8, bytes: &[u8]) -> Option<&[u8]>
     ensures { option_map (λ x. x.now) result ≡ past_byte byte bytes.now }
 {
-    let [first, rest @ ..] = bytes else {
-        return None;
-    };
-    if *first != byte {
-        return None;
-    }
-    Some(rest)
+    bytes.strip_prefix(&[byte])
 }
 
 // A number with the byte `end` after it, and what stands after that.
 fn number_then(end: u8, bytes: &[u8]) -> Option<(u16, &[u8])>
     ensures { option_map (λ x. (x.0, x.1.now)) result ≡ number_then end bytes.now }
 {
-    let Some((n, rest)) = number(bytes) else {
-        return None;
-    };
-    let Some(rest) = past(end, rest) else {
-        return None;
-    };
-    Some((n, rest))
+    let (n, rest) = number(bytes)?;
+    Some((n, past(end, rest)?))
 }
 
 fn ranged(verifiers: u16, places: u16, epochs: u16) -> Result<Limits, LineRefusal>
     ensures { result ≡ in_range verifiers places epochs }
 {
-    if verifiers < 1 || verifiers > MAX_VERIFIERS {
+    if !(1..=MAX_VERIFIERS).contains(&verifiers) {
         return Err(LineRefusal::Verifiers);
     }
-    if places < 2 || places > MAX_PLACES {
+    if !(2..=MAX_PLACES).contains(&places) {
         return Err(LineRefusal::Places);
     }
-    if epochs < 2 || epochs > MAX_EPOCHS {
+    if !(2..=MAX_EPOCHS).contains(&epochs) {
         return Err(LineRefusal::Epochs);
     }
     Ok(Limits {
@@ -172,18 +149,13 @@ pub fn read_limits(line: &[u8]) -> Result<Limits, LineRefusal>
     limits_in(line)
 }
 
+// What `read_limits` gives. Its other clauses follow from this one, so they are shown at one return.
 fn limits_in(line: &[u8]) -> Result<Limits, LineRefusal>
     ensures { result ≡ read_line line.now }
 {
-    let Some((verifiers, rest)) = number_then(b' ', line) else {
-        return Err(LineRefusal::NotThreeNumbers);
-    };
-    let Some((places, rest)) = number_then(b' ', rest) else {
-        return Err(LineRefusal::NotThreeNumbers);
-    };
-    let Some((epochs, rest)) = number_then(b'\n', rest) else {
-        return Err(LineRefusal::NotThreeNumbers);
-    };
+    let (verifiers, rest) = number_then(b' ', line).ok_or(LineRefusal::NotThreeNumbers)?;
+    let (places, rest) = number_then(b' ', rest).ok_or(LineRefusal::NotThreeNumbers)?;
+    let (epochs, rest) = number_then(b'\n', rest).ok_or(LineRefusal::NotThreeNumbers)?;
     if !rest.is_empty() {
         return Err(LineRefusal::NotThreeNumbers);
     }

@@ -1,7 +1,6 @@
 // What the program's arguments ask for.
 #![tactic(auto)]
 
-ghost use Rattle.std.specs.Prelude.{◌≡◌, ◌==◌, slice_index};
 ghost use Rattle.options.specs.Flags.{Spells};
 
 use std::fmt;
@@ -49,62 +48,48 @@ impl fmt::Display for Misuse<'_> {
 
 // The words are the arguments after the program's own name.
 pub fn parse<'a>(words: &[&'a str]) -> Result<Command<'a>, Misuse<'a>> {
-    if words.is_empty() {
+    let [command, rest @ ..] = words else {
         return Err(Misuse::NoCommand);
-    }
-    match words[0] {
+    };
+    match *command {
         "--help" | "-h" | "help" => Ok(Command::Help),
         "--version" => Ok(Command::Version),
-        "check" => parse_check(&words[1..]),
+        "check" => parse_check(rest),
         other => Err(Misuse::UnknownCommand(other)),
     }
 }
 
 fn parse_check<'a>(words: &[&'a str]) -> Result<Command<'a>, Misuse<'a>> {
-    let mut so_far = SoFar::new();
+    let mut so_far = SoFar::default();
     for word in words {
-        match so_far.take(*word) {
-            Ok(()) => {}
-            Err(WordRefusal::SecondLog) => return Err(Misuse::SecondLog(*word)),
-            Err(WordRefusal::UnknownOption) => return Err(Misuse::UnknownOption(*word)),
-        }
+        so_far.take(*word)?;
     }
     if so_far.help {
         return Ok(Command::Help);
     }
-    if let Expected::KeyFile = so_far.expected {
+    if so_far.expected == Expected::KeyFile {
         return Err(Misuse::NoKeyFile);
     }
-    let SoFar {
-        log,
-        key,
-        quiet,
-        progress,
-        no_fail,
-        ..
-    } = so_far;
-    match log {
-        Some(log) => Ok(Command::Check(CheckOptions {
-            log,
-            key,
-            quiet,
-            progress,
-            no_fail,
-        })),
-        None => Err(Misuse::NoLog),
-    }
+    Ok(Command::Check(CheckOptions {
+        log: so_far.log.ok_or(Misuse::NoLog)?,
+        key: so_far.key,
+        quiet: so_far.quiet,
+        progress: so_far.progress,
+        no_fail: so_far.no_fail,
+    }))
 }
 
 // What the next word may be.
-#[derive(Clone, Copy)]
+#[derive(Clone, Copy, Default, PartialEq, Eq)]
 enum Expected {
+    #[default]
     Anything,
     KeyFile,
     NoOption,
 }
 
 // What the words up to now ask for.
-#[derive(Clone, Copy)]
+#[derive(Clone, Copy, Default)]
 struct SoFar<'a> {
     log: Option<&'a str>,
     key: Option<&'a str>,
@@ -116,72 +101,37 @@ struct SoFar<'a> {
 }
 
 impl<'a> SoFar<'a> {
-    fn new() -> SoFar<'a> {
-        SoFar {
-            log: None,
-            key: None,
-            quiet: false,
-            progress: false,
-            no_fail: false,
-            help: false,
-            expected: Expected::Anything,
-        }
-    }
-
-    fn take(&mut self, word: &'a str) -> Result<(), WordRefusal> {
+    fn take(&mut self, word: &'a str) -> Result<(), Misuse<'a>> {
         match self.expected {
             Expected::KeyFile => {
                 self.key = Some(word);
                 self.expected = Expected::Anything;
-                Ok(())
             }
-            Expected::NoOption => self.take_log(word),
+            Expected::NoOption => self.take_log(word)?,
             Expected::Anything => match flag_of(word) {
-                Flag::Plain => self.take_log(word),
-                Flag::Other => self.take_key_file(word),
-                flag => {
-                    self.take_flag(flag);
-                    Ok(())
+                Flag::Plain => self.take_log(word)?,
+                Flag::End => self.expected = Expected::NoOption,
+                Flag::Key => self.expected = Expected::KeyFile,
+                Flag::Quiet => self.quiet = true,
+                Flag::Progress => self.progress = true,
+                Flag::NoFail => self.no_fail = true,
+                Flag::Help => self.help = true,
+                Flag::Other => {
+                    let file = word.strip_prefix("--key=");
+                    self.key = Some(file.ok_or(Misuse::UnknownOption(word))?);
                 }
             },
         }
+        Ok(())
     }
 
-    fn take_log(&mut self, word: &'a str) -> Result<(), WordRefusal> {
+    fn take_log(&mut self, word: &'a str) -> Result<(), Misuse<'a>> {
         if self.log.is_some() {
-            return Err(WordRefusal::SecondLog);
+            return Err(Misuse::SecondLog(word));
         }
         self.log = Some(word);
         Ok(())
     }
-
-    // The file of --key=FILE.
-    fn take_key_file(&mut self, word: &'a str) -> Result<(), WordRefusal> {
-        let Some(file) = word.strip_prefix("--key=") else {
-            return Err(WordRefusal::UnknownOption);
-        };
-        self.key = Some(file);
-        Ok(())
-    }
-
-    fn take_flag(&mut self, flag: Flag) {
-        match flag {
-            Flag::End => self.expected = Expected::NoOption,
-            Flag::Key => self.expected = Expected::KeyFile,
-            Flag::Quiet => self.quiet = true,
-            Flag::Progress => self.progress = true,
-            Flag::NoFail => self.no_fail = true,
-            Flag::Help => self.help = true,
-            Flag::Plain | Flag::Other => {}
-        }
-    }
-}
-
-// Why a word cannot stand where it does.
-#[derive(Clone, Copy)]
-enum WordRefusal {
-    SecondLog,
-    UnknownOption,
 }
 
 // What a word is on its own.
@@ -210,21 +160,9 @@ fn flag_of(word: &str) -> Flag
         "--help" | "-h" => Flag::Help,
         // A lone - is standard input.
         "-" => Flag::Plain,
-        _ => if begins_with_dash(word.as_bytes()) {
-            Flag::Other
-        } else {
-            Flag::Plain
-        },
+        _ if word.starts_with('-') => Flag::Other,
+        _ => Flag::Plain,
     }
-}
-
-fn begins_with_dash(bytes: &[u8]) -> bool
-    ensures { result ≡ (slice_index bytes.now 0 == 45) }
-{
-    if bytes.is_empty() {
-        return false;
-    }
-    bytes[0] == b'-'
 }
 
 #[cfg(test)]

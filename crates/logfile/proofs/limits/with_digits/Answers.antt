@@ -1,15 +1,15 @@
-use Rattle.std.proofs.Common.{arith}
-use Rattle.logfile.proofs.Digits.{turn, halt, over}
+use Rattle.std.proofs.Common.{sym, ◌∙◌, arith}
+use Rattle.logfile.proofs.Digits.{turn, over, halt_low, halt_high}
 use Rattle.logfile.proofs.limits.with_digits.Goals as goal
-use Rattle.logfile.proofs.limits.with_digits.Goals.{then-loop-i-test+else-is_digit, else-loop-i-test}
+use Rattle.logfile.proofs.limits.with_digits.Goals.{in_default, in_default-2, in_default-3}
 
-pub loop-i-preserved : goal.loop-i-preserved
-loop-i-preserved c =
-    (omega arith, omega arith, turn c.loop-i.n c.loop-i.i c.min-n.result c.args.bytes.now _ c.loop-i-test.true c.if-is_digit.ensures c.min-n.ensures c.loop-i.invariant.2)
+pub loop-rest-preserved : goal.loop-rest-preserved
+loop-rest-preserved c = turn c.loop-rest.n _ c.loop-rest.rest.now _ (omega arith) (omega arith) (omega arith) (omega arith) c.loop-rest.invariant
 
 pub returns : goal.returns
 returns c =
-    elim c.loop-i-test.branch [
-      | then-loop-i-test+else-is_digit w ↦ halt c.loop-i.n c.loop-i.i c.args.bytes.now _ w.loop-i-test.true w.if-is_digit.ensures c.loop-i.invariant.2
-      | else-loop-i-test w ↦ over c.loop-i.n c.loop-i.i c.args.bytes.now _ w.loop-i-test.false c.loop-i.invariant.2
+    elim c.if-rest-lt1.branch [
+      | in_default w ↦ sym (over c.loop-rest.n c.loop-rest.rest.now (omega arith)) ∙ c.loop-rest.invariant
+      | in_default-2 w ↦ sym (halt_low c.loop-rest.n c.loop-rest.rest.now (omega arith) (omega arith)) ∙ c.loop-rest.invariant
+      | in_default-3 w ↦ sym (halt_high c.loop-rest.n c.loop-rest.rest.now (omega arith) (omega arith)) ∙ c.loop-rest.invariant
     ]
