@@ -1,5 +1,5 @@
 // Paths: from bytes and back, in their order, and of keys.
-use path::Path;
+use path::{Path, Side};
 use record::{bits_into, key_path, path_from_bits};
 use std::test::Fail;
 use writer::Writer;
@@ -54,8 +54,8 @@ fn below_and_before(rt: HostRuntime) -> Result<(), Fail> {
     assert!(rt; node.is_below(&root));
     assert!(rt; !node.is_below(&node));
     assert!(rt; !right.is_below(&left));
-    assert_eq!(rt; left.side_of(&node), 0);
-    assert_eq!(rt; right.side_of(&node), 1);
+    assert_eq!(rt; left.side_of(&node), Side::Left);
+    assert_eq!(rt; right.side_of(&node), Side::Right);
     assert!(rt; node.is_before(&left));
     assert!(rt; left.is_before(&right));
     assert!(rt; !right.is_before(&right));

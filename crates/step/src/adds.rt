@@ -4,14 +4,31 @@ ghost use Rattle.model.specs.Verifier.{Verifier, verifier_step, add_merkle, add_
 ghost use Rattle.path.specs.Times.{timestamp_of};
 ghost use Rattle.reader.specs.Meaning.{record_of, MerklePart};
 ghost use Rattle.range.specs.Packing.{bits_of, PacksRecord};
+ghost use Rattle.slot.specs.Meant.{record_meant, IsNamed, IsShort};
 ghost use Rattle.block.specs.Blocks.{block_words, Keeps, Taken};
 
-use blum::{add_blum_data, add_blum_node};
 use conditions::Failure;
-use path::Timestamp;
+use path::{Path, Timestamp};
 use range::Packed;
-use verifier::{add_merkle_data, add_merkle_node};
-use wire::{Contents, Record};
+use record::key_path;
+use slot::Contents;
+use wire::{Contents as Read, Record};
+
+// The path of a record that was read, and what it holds.
+fn stored<'a>(record: Record<'a>, packed: &Packed) -> (Path, Contents<'a>)
+    requires { PacksRecord «record» packed.now }
+    ensures meant { record_meant result.0 result.1 ≡ record_of «record».entry }
+    ensures named { IsNamed result.0 result.1 }
+    ensures short { IsShort result.1 }
+{
+    match record.contents {
+        Read::Value(value) => (key_path(record.name), Contents::Data(record.name, value)),
+        Read::Children { .. } => {
+            // each child on its own side
+            (packed.path, Contents::Node(packed.left, packed.right))
+        }
+    }
+}
 
 // AddMerkle of a record, of which the paths and pointers are packed.
 pub fn add_merkle(
@@ -26,25 +43,15 @@ pub fn add_merkle(
     ensures same { is_ok result ≡ false → block.new ≡ block.old }
     ensures step { (t : ℕ) (v : Verifier) → Keeps n block.old v → length v.store < n → MerklePart «record».entry → Taken n block.new result (verifier_step t v (add_merkle (record_of «record».entry) (bits_of packed.now.above))) }
 {
-    match record.contents {
-        Contents::Value(value) => add_merkle_data(
-            block,
-            n,
-            record.name,
-            value,
-            record.merkle_bytes,
-            &packed.above,
-        ),
-        Contents::Children { .. } => add_merkle_node(
-            block,
-            n,
-            &packed.path,
-            &packed.left,
-            &packed.right,
-            record.merkle_bytes,
-            &packed.above,
-        ),
-    }
+    let (path, contents) = stored(record, packed);
+    verifier::add_merkle(
+        block,
+        n,
+        &path,
+        contents,
+        record.merkle_bytes,
+        &packed.above,
+    )
 }
 
 // AddBlum of a record, of which the path and pointers are packed.
@@ -61,15 +68,6 @@ pub fn add_blum(
     ensures same { is_ok result ≡ false → block.new ≡ block.old }
     ensures step { (t j : ℕ) (v : Verifier) → Keeps n block.old v → length v.store < n → timestamp.counter < 2 ^ 64 - 1 → Taken n block.new result (verifier_step t v (add_blum (record_of «record».entry) (timestamp_of timestamp) j)) }
 {
-    match record.contents {
-        Contents::Value(value) => add_blum_data(block, n, record.name, value, timestamp),
-        Contents::Children { .. } => add_blum_node(
-            block,
-            n,
-            &packed.path,
-            &packed.left, // each child on its own side
-            &packed.right,
-            timestamp,
-        ),
-    }
+    let (path, contents) = stored(record, packed);
+    blum::add_blum(block, n, &path, contents, timestamp)
 }

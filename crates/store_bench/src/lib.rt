@@ -8,7 +8,9 @@ ghost use Rattle.path.specs.Packs.{path_in, Packs};
 ghost use Rattle.store.specs.Holding.{Added, Found, Holds, Walked};
 
 use path::path_from_words;
+use slot::Contents;
 use slot::child::Child;
+use store::{Store, StoreRef};
 
 #[unsafe(no_mangle)]
 pub extern "C" fn store_open(mem: &mut [u64], n: usize)
@@ -16,7 +18,7 @@ pub extern "C" fn store_open(mem: &mut [u64], n: usize)
     requires room { length mem.old ≡ 192 * n }
     ensures { (salt : ℕ) → Holds n salt mem.new [] }
 {
-    store::open(mem, n);
+    Store::new(mem, n, 0).open();
 }
 
 #[unsafe(no_mangle)]
@@ -26,7 +28,9 @@ pub extern "C" fn store_find(mem: &[u64], n: usize, salt: u64, len: usize, bits:
     requires four { length bits.now ≡ 4 }
     ensures { Packs len bits.now → (xs : List Stored) → Holds n salt mem.now xs → Found n mem.now xs (path_in len bits.now) result }
 {
-    store::find_words(mem, n, salt, len, bits)
+    StoreRef::new(mem, n, salt)
+        .find_words(len, bits)
+        .unwrap_or(n)
 }
 
 // Its slot; `n` if no path is in these words, or no place is left.
@@ -40,7 +44,9 @@ pub extern "C" fn store_add(mem: &mut [u64], n: usize, salt: u64, len: usize, bi
     let Some(path) = path_from_words(len, bits) else {
         return n;
     };
-    store::add_node(mem, n, salt, &path, &Child::Absent, &Child::Absent, true)
+    let contents = Contents::Node(Child::Absent, Child::Absent);
+    let mut store = Store::new(mem, n, salt);
+    store.add(&path, contents, true).unwrap_or(n)
 }
 
 #[unsafe(no_mangle)]
@@ -50,5 +56,5 @@ pub extern "C" fn store_remove(mem: &mut [u64], n: usize, salt: u64, i: usize)
     requires within { i < n }
     ensures { (xs : List Stored) (k : ℕ) (ws : List ℕ) → Holds n salt mem.old xs → Walked n salt mem.old k ws i → Holds n salt mem.new (without (path_in k ws) xs) }
 {
-    store::remove(mem, n, salt, i);
+    Store::new(mem, n, salt).remove(i);
 }

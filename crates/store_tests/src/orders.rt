@@ -1,12 +1,11 @@
 // A store is filled to its limit, emptied in many orders, and filled again.
-ghost use Rattle.std.specs.Prelude.{◌≡◌, length};
-
 use path::Path;
 use record::path_from_bits;
+use slot::Contents;
 use slot::child::Child;
 use std::process::Abort;
 use std::test::Fail;
-use store::{add_node, count, find_path, is_full, open, remove};
+use store::Store;
 
 const PLACES: usize = 8;
 
@@ -20,45 +19,35 @@ fn path(k: u8) -> Result<Path, Fail> {
     }
 }
 
-fn is_stored(mem: &[u64], k: u8) -> Result<bool, Fail>
-    requires { length mem.now ≡ 1536 }
-{
-    let p = path(k)?;
-    Ok(find_path(mem, PLACES, SALT, &p) < PLACES)
+fn is_stored(store: &Store<'_>, k: u8) -> Result<bool, Fail> {
+    Ok(store.as_ref().find(&path(k)?).is_some())
 }
 
-fn insert(mem: &mut [u64], k: u8) -> Result<bool, Fail>
-    requires { length mem.old ≡ 1536 }
-{
-    let p = path(k)?;
-    let i = add_node(mem, PLACES, SALT, &p, &Child::Absent, &Child::Absent, true);
-    Ok(i < PLACES)
+fn insert(store: &mut Store<'_>, k: u8) -> Result<bool, Fail> {
+    let contents = Contents::Node(Child::Absent, Child::Absent);
+    Ok(store.add(&path(k)?, contents, true).is_some())
 }
 
-fn take(mem: &mut [u64], k: u8) -> Result<bool, Fail>
-    requires { length mem.old ≡ 1536 }
-{
-    let p = path(k)?;
-    let i = find_path(mem, PLACES, SALT, &p);
-    if i >= PLACES {
+fn take(store: &mut Store<'_>, k: u8) -> Result<bool, Fail> {
+    let Some(i) = store.as_ref().find(&path(k)?) else {
         return Ok(false);
+    };
+    if i < store.places {
+        store.remove(i);
     }
-    remove(mem, PLACES, SALT, i);
     Ok(true)
 }
 
-fn fill(rt: &impl Abort, mem: &mut [u64]) -> Result<(), Fail>
-    requires { length mem.old ≡ 1536 }
-{
+fn fill(rt: &impl Abort, store: &mut Store<'_>) -> Result<(), Fail> {
     for k in 0..8u8 {
-        assert!(rt; !is_full(mem, PLACES));
-        assert!(rt; insert(mem, k)?);
-        assert!(rt; is_stored(mem, k)?);
-        assert_eq!(rt; count(mem, PLACES), k as usize + 1);
+        assert!(rt; !store.as_ref().is_full());
+        assert!(rt; insert(store, k)?);
+        assert!(rt; is_stored(store, k)?);
+        assert_eq!(rt; store.as_ref().count(), k as usize + 1);
     }
-    assert!(rt; is_full(mem, PLACES));
-    assert!(rt; !insert(mem, 9)?);
-    assert!(rt; !is_stored(mem, 9)?);
+    assert!(rt; store.as_ref().is_full());
+    assert!(rt; !insert(store, 9)?);
+    assert!(rt; !is_stored(store, 9)?);
     Ok(())
 }
 
@@ -67,30 +56,14 @@ fn in_turn(first: u8, step: u8, j: u8) -> u8 {
     first.wrapping_add(step.wrapping_mul(j)) % 8
 }
 
-fn empty(rt: &impl Abort, mem: &mut [u64], first: u8, step: u8) -> Result<(), Fail>
-    requires { length mem.old ≡ 1536 }
-{
+fn empty(rt: &impl Abort, store: &mut Store<'_>, first: u8, step: u8) -> Result<(), Fail> {
     for j in 0..8u8 {
         let k = in_turn(first, step, j);
-        assert!(rt; take(mem, k)?);
-        assert!(rt; !take(mem, k)?);
-        assert_eq!(rt; count(mem, PLACES), 7 - j as usize);
+        assert!(rt; take(store, k)?);
+        assert!(rt; !take(store, k)?);
+        assert_eq!(rt; store.as_ref().count(), 7 - j as usize);
         for later in j + 1..8 {
-            assert!(rt; is_stored(mem, in_turn(first, step, later))?);
-        }
-    }
-    Ok(())
-}
-
-fn rounds(rt: &impl Abort, mem: &mut [u64]) -> Result<(), Fail>
-    requires { length mem.old ≡ 1536 }
-{
-    open(mem, PLACES);
-    assert_eq!(rt; count(mem, PLACES), 0);
-    for first in 0..8u8 {
-        for half in 0..4u8 {
-            fill(rt, mem)?;
-            empty(rt, mem, first, 2 * half + 1)?;
+            assert!(rt; is_stored(store, in_turn(first, step, later))?);
         }
     }
     Ok(())
@@ -99,5 +72,14 @@ fn rounds(rt: &impl Abort, mem: &mut [u64]) -> Result<(), Fail>
 #[test]
 fn every_order(rt: HostRuntime) -> Result<(), Fail> {
     let mut mem = [0xa5a5_a5a5_a5a5_a5a5u64; 1536];
-    rounds(&rt, &mut mem)
+    let mut store = Store::new(&mut mem, PLACES, SALT);
+    store.open();
+    assert_eq!(rt; store.as_ref().count(), 0);
+    for first in 0..8u8 {
+        for half in 0..4u8 {
+            fill(&rt, &mut store)?;
+            empty(&rt, &mut store, first, 2 * half + 1)?;
+        }
+    }
+    Ok(())
 }

@@ -1,11 +1,12 @@
 // Keys and values of lengths about whole words, compared with those that are stored; and paths in words.
-ghost use Rattle.std.specs.Prelude.{◌≡◌, ◌<◌, ◌≤◌, length};
+ghost use Rattle.std.specs.Prelude.{◌<◌, ◌≤◌};
 
 use path::path_from_words;
 use reads::{has_key, has_value};
 use record::key_path;
+use slot::Contents;
 use std::process::Abort;
-use store::{add_data, open, set_value};
+use store::{Store, StoreRef};
 
 const PLACES: usize = 4;
 
@@ -21,80 +22,70 @@ fn bytes_but(j: usize) -> [u8; 1025]
 }
 
 // Is the key in slot `i` these bytes, and not one byte more?
-fn is_key(mem: &[u64], i: usize, len: usize) -> bool
-    requires room { length mem.now ≡ 768 }
-    requires within { i < 4 }
+fn is_key(store: StoreRef<'_>, i: usize, len: usize) -> bool
+    requires within { i < store.places }
     requires len { len ≤ 64 }
 {
     let bytes = [0xa5u8; 1025];
-    has_key(mem, PLACES, i, &bytes[0..len]) && !has_key(mem, PLACES, i, &bytes[0..len + 1])
+    has_key(store, i, &bytes[0..len]) && !has_key(store, i, &bytes[0..len + 1])
 }
 
-fn is_value(mem: &[u64], i: usize, value: &[u8]) -> bool
-    requires room { length mem.now ≡ 768 }
-    requires within { i < 4 }
+fn is_value(store: StoreRef<'_>, i: usize, value: &[u8]) -> bool
+    requires { i < store.places }
 {
-    has_value(mem, PLACES, i, Some(value))
+    has_value(store, i, Some(value))
 }
 
 // Is the value in slot `i` none that differs in one byte?
-fn is_no_other(mem: &[u64], i: usize, len: usize) -> bool
-    requires room { length mem.now ≡ 768 }
-    requires within { i < 4 }
+fn is_no_other(store: StoreRef<'_>, i: usize, len: usize) -> bool
+    requires within { i < store.places }
     requires len { len ≤ 1024 }
 {
-    for j in 0..len {
-        if is_value(mem, i, &bytes_but(j)[0..len]) {
-            return false;
-        }
-    }
-    true
+    (0..len).all(|j| !is_value(store, i, &bytes_but(j)[0..len]))
 }
 
-fn compared(rt: &impl Abort, mem: &mut [u64], key_len: usize, value_len: usize)
-    requires room { length mem.old ≡ 768 }
+fn compared(rt: &impl Abort, store: &mut Store<'_>, key_len: usize, value_len: usize)
     requires key { key_len ≤ 64 }
     requires value { value_len ≤ 1024 }
 {
     let bytes = [0xa5u8; 1025];
     let key = &bytes[0..key_len];
     let value = &bytes[0..value_len];
-    open(mem, PLACES);
-    let i = add_data(mem, PLACES, SALT, &key_path(key), key, Some(value), true);
-    assert!(rt; i < PLACES);
-    assert!(rt; is_key(mem, i, key_len));
-    assert!(rt; is_value(mem, i, value));
-    assert!(rt; !is_value(mem, i, &bytes[0..value_len + 1]));
-    assert!(rt; is_no_other(mem, i, value_len));
-}
-
-fn lengths(rt: &impl Abort, mem: &mut [u64])
-    requires { length mem.old ≡ 768 }
-{
-    compared(rt, mem, 0, 0);
-    compared(rt, mem, 7, 1);
-    compared(rt, mem, 8, 1024);
-    compared(rt, mem, 9, 9);
-    compared(rt, mem, 64, 1023);
+    store.open();
+    let added = store.add(&key_path(key), Contents::Data(key, Some(value)), true);
+    let i = added.unwrap_or(PLACES);
+    assert!(rt; i < store.places);
+    assert!(rt; is_key(store.as_ref(), i, key_len));
+    assert!(rt; is_value(store.as_ref(), i, value));
+    assert!(rt; !is_value(store.as_ref(), i, &bytes[0..value_len + 1]));
+    assert!(rt; is_no_other(store.as_ref(), i, value_len));
 }
 
 #[test]
 fn keys_and_values(rt: HostRuntime) {
     let mut mem = [1u64; 768];
-    lengths(&rt, &mut mem);
+    let mut store = Store::new(&mut mem, PLACES, SALT);
+    compared(&rt, &mut store, 0, 0);
+    compared(&rt, &mut store, 7, 1);
+    compared(&rt, &mut store, 8, 1024);
+    compared(&rt, &mut store, 9, 9);
+    compared(&rt, &mut store, 64, 1023);
 }
 
 #[test]
 fn no_value(rt: HostRuntime) {
     let mut mem = [1u64; 768];
-    open(&mut mem, PLACES);
-    let i = add_data(&mut mem, PLACES, SALT, &key_path(b"k"), b"k", None, true);
-    assert!(rt; i < PLACES);
-    assert!(rt; has_value(&mem, PLACES, i, None));
-    assert!(rt; !has_value(&mem, PLACES, i, Some(b"")));
-    set_value(&mut mem, PLACES, i, b"");
-    assert!(rt; has_value(&mem, PLACES, i, Some(b"")));
-    assert!(rt; !has_value(&mem, PLACES, i, None));
+    let mut store = Store::new(&mut mem, PLACES, SALT);
+    store.open();
+    let added = store.add(&key_path(b"k"), Contents::Data(b"k", None), true);
+    let i = added.unwrap_or(PLACES);
+    assert!(rt; i < store.places);
+    assert!(rt; has_value(store.as_ref(), i, None));
+    assert!(rt; !has_value(store.as_ref(), i, Some(b"")));
+    store.set_value(i, b"");
+    assert!(rt; i < store.places);
+    assert!(rt; has_value(store.as_ref(), i, Some(b"")));
+    assert!(rt; !has_value(store.as_ref(), i, None));
 }
 
 #[test]
