@@ -48,9 +48,7 @@ pub fn child(pointer: Pointer<'_>) -> Option<Child>
     else {
         return Some(Child::Absent);
     };
-    let Some(packed) = path_from_bits(path) else {
-        return None;
-    };
+    let packed = path_from_bits(path)?;
     Some(present(packed, &hash, in_blum))
 }
 

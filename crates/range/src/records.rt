@@ -37,15 +37,9 @@ fn of_node(path: &[u8], left: Pointer<'_>, right: Pointer<'_>) -> Option<Packed>
     ensures some { is_some result ≡ (good_node_path path.now && (good_pointer (pointer_of left.entry) && good_pointer (pointer_of right.entry))) }
     ensures packed { IfSome result (λ p. (bits_of p.path ≡ path.now) × (child_meant p.left ≡ pointer_of left.entry) × (child_meant p.right ≡ pointer_of right.entry)) }
 {
-    let Some(path) = node_path(path) else {
-        return None;
-    };
-    let Some(left) = child(left) else {
-        return None;
-    };
-    let Some(right) = child(right) else {
-        return None;
-    };
+    let path = node_path(path)?;
+    let left = child(left)?;
+    let right = child(right)?;
     Some(Packed {
         path,
         left,

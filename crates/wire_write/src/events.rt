@@ -70,9 +70,7 @@ fn put_entry(to: &mut [u8], at: usize, entry: Entry<'_>) -> usize
 pub fn write_event(to: &mut [u8], verifier: u64, entry: Entry<'_>) -> Option<usize>
     ensures { Writes (readable (logged verifier (entry_of entry.entry))) (event_bytes verifier (entry_of entry.entry)) to.old to.new result }
 {
-    let Some(len) = event_len(verifier, entry) else {
-        return None;
-    };
+    let len = event_len(verifier, entry)?;
     if to.len() < len {
         return None;
     }
