@@ -14,9 +14,9 @@ fn put_entry(to: &mut [u8], at: usize, entry: Entry<'_>) -> usize
     requires { at + entry_room (entry_of entry) ≤ length to.old }
     ensures { page to.new result ≡ with_entry (page to.old at) (entry_of entry.entry) }
 {
+    let at = put_byte(to, at, entry.code());
     match entry {
         Entry::AddMerkle { record, above } => {
-            let at = put_byte(to, at, 0);
             let at = put_record(to, at, record);
             put_sized(to, at, above)
         }
@@ -26,18 +26,15 @@ fn put_entry(to: &mut [u8], at: usize, entry: Entry<'_>) -> usize
             verifier,
             ..
         } => {
-            let at = put_byte(to, at, 1);
             let at = put_record(to, at, record);
             let at = put_timestamp(to, at, timestamp);
             put_number(to, at, verifier)
         }
         Entry::EvictMerkle { path, above } => {
-            let at = put_byte(to, at, 2);
             let at = put_sized(to, at, path);
             put_sized(to, at, above)
         }
         Entry::EvictBlum { path, timestamp } => {
-            let at = put_byte(to, at, 3);
             let at = put_sized(to, at, path);
             put_timestamp(to, at, timestamp)
         }
@@ -46,20 +43,16 @@ fn put_entry(to: &mut [u8], at: usize, entry: Entry<'_>) -> usize
             above,
             timestamp,
         } => {
-            let at = put_byte(to, at, 4);
             let at = put_sized(to, at, path);
             let at = put_sized(to, at, above);
             put_timestamp(to, at, timestamp)
         }
-        Entry::NextEpoch => put_byte(to, at, 5),
-        Entry::VerifyEpoch => put_byte(to, at, 6),
+        Entry::NextEpoch | Entry::VerifyEpoch => at,
         Entry::Get { key, value } => {
-            let at = put_byte(to, at, 7);
             let at = put_sized(to, at, key);
             put_value(to, at, value)
         }
         Entry::Set { key, value } => {
-            let at = put_byte(to, at, 8);
             let at = put_sized(to, at, key);
             put_sized(to, at, value)
         }

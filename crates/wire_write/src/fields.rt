@@ -1,7 +1,7 @@
 // Fields and records written at a place of a slice; each function returns the place after what it wrote.
 ghost use Rattle.std.specs.Prelude.{◌≡◌, ◌+◌, ◌^◌, ◌<◌, ◌≤◌, length};
 ghost use Rattle.reader.specs.Meaning.{hash_number, value_of, pointer_of, record_of, timestamp_of};
-ghost use Rattle.wire_write.specs.Written.{page, with_bytes, with_byte, with_sized, with_number, with_hash, with_timestamp, with_value, flag, with_pointer, with_record, sized_room, value_room, pointer_room, record_room};
+ghost use Rattle.wire_write.specs.Written.{page, with_bytes, with_byte, with_sized, with_number, with_hash, with_timestamp, with_value, with_pointer, with_record, sized_room, value_room, pointer_room, record_room};
 
 use wire::{Contents, Pointer, Record, Timestamp};
 
@@ -79,12 +79,6 @@ pub fn put_value(to: &mut [u8], at: usize, value: Option<&[u8]>) -> usize
     }
 }
 
-fn flag_byte(b: bool) -> u8
-    ensures { result ≡ flag b }
-{
-    if b { 1 } else { 0 }
-}
-
 fn put_pointer(to: &mut [u8], at: usize, pointer: Pointer<'_>) -> usize
     requires { at + pointer_room (pointer_of pointer) ≤ length to.old }
     ensures end { result ≡ at + pointer_room (pointer_of pointer.entry) }
@@ -98,7 +92,7 @@ fn put_pointer(to: &mut [u8], at: usize, pointer: Pointer<'_>) -> usize
             in_blum,
         } => {
             let at = put_byte(to, at, 1);
-            let at = put_byte(to, at, flag_byte(in_blum));
+            let at = put_byte(to, at, u8::from(in_blum));
             let at = put_sized(to, at, path);
             put_hash(to, at, hash)
         }

@@ -12,19 +12,19 @@ pub put_number-at-requires : goal.put_number-at-requires
 put_number-at-requires c =
     let t = c.args.verifier in
     let e = entry_of c.args.entry in
-    omega (arith, event_length t e, (length_tells (readable (logged t e)) (length (event_bytes t e)) c.in-Some.len c.in-Some.ensures).1)
+    omega (arith, event_length t e, (length_tells (readable (logged t e)) (length (event_bytes t e)) c.in_ok-len.len c.in_ok-len.ensures).1)
 
 pub put_entry-requires : goal.put_entry-requires
 put_entry-requires c =
     let t = c.args.verifier in
     let e = entry_of c.args.entry in
-    omega (arith, event_length t e, (length_tells (readable (logged t e)) (length (event_bytes t e)) c.in-Some.len c.in-Some.ensures).1)
+    omega (arith, event_length t e, (length_tells (readable (logged t e)) (length (event_bytes t e)) c.in_ok-len.len c.in_ok-len.ensures).1)
 
 pub returns : goal.returns
 returns c =
     let t = c.args.verifier in
     let e = entry_of c.args.entry in
-    let l = length_tells (readable (logged t e)) (length (event_bytes t e)) c.in-Some.len c.in-Some.ensures in
+    let l = length_tells (readable (logged t e)) (length (event_bytes t e)) c.in_ok-len.len c.in_ok-len.ensures in
     let f =
     at_front c.args.to.now c.put_entry.new.to (event_bytes t e) c.put_entry.result
     (c.put_entry.ensures ∙ (ap (λ p. with_entry p e) c.put_number-at.ensures.written ∙ event_put c.args.to.now t e)) in
