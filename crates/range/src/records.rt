@@ -27,10 +27,7 @@ pub fn of_call(key: &[u8], value: Option<&[u8]>) -> Option<Packed>
     ensures some { is_some result ≡ (good_key key.now && good_value (value_of value.entry)) }
     ensures short { OnSome result (Short key.now value.entry) }
 {
-    if !is_good_call(key, value) {
-        return None;
-    }
-    Some(nothing())
+    is_good_call(key, value).then(nothing)
 }
 
 fn of_node(path: &[u8], left: Pointer<'_>, right: Pointer<'_>) -> Option<Packed>
@@ -48,6 +45,7 @@ fn of_node(path: &[u8], left: Pointer<'_>, right: Pointer<'_>) -> Option<Packed>
     })
 }
 
+#[tactic(auto, unfolding(model::specs::Monitor::good_record))]
 pub fn of_record(record: Record<'_>) -> Option<Packed>
     ensures some { is_some result ≡ good_record (record_of «record».entry) }
     ensures packed { IfSome result (PacksRecord «record».entry) }
