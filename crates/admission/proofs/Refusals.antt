@@ -17,12 +17,6 @@ module _ (l : Limits) (s : State) (t : ℕ) (e : Entry) where
   pub no_verifier : ltb t l.verifiers ≡ false → refusal l s (logged t e) ≡ 2
   no_verifier h = out (rw h refl)
 
-  pub unsupported : l.supports (entry_code e) ≡ false → refusal l s (logged t e) ≡ 2
-  unsupported h = out (rw (h, and_false) refl)
-
-  pub not_good : good_entry l e ≡ false → refusal l s (logged t e) ≡ 2
-  not_good h = out (rw (h, and_false) refl)
-
   pub beyond : fits_32 (epoch_named (verifier_at s.verifiers t) e) ≡ false → refusal l s (logged t e) ≡ 2
   beyond h = out (rw (h, and_false) refl)
 
