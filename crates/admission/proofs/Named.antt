@@ -1,13 +1,7 @@
 -- The epoch that an entry names.
-use Rattle.std.proofs.Common.{◌≡◌, ℕ, suc, ◌+◌, ◌-◌, ◌^◌, ◌<◌, min, true, List, sym, refl, ap, ◌∙◌, ⊎_elim, arith, Bor}
+use Rattle.std.proofs.Common.{◌≡◌, ℕ, suc, ◌+◌, ◌-◌, ◌^◌, ◌<◌, min, true, sym, ap, ◌∙◌, ⊎_elim, arith}
 use Rattle.std.proofs.lemmas.Bool.{cases_lt, ltb-true, le-ltb}
-use Rattle.model.specs.Verifier.{Verifier}
-use Rattle.model.specs.Monitor.{epoch_named, fits_32}
-use Rattle.path.specs.declared.times.Timestamp.{Timestamp}
-use Rattle.reader.specs.declared.Record.{Record}
-use Rattle.wire.specs.declared.parts.Entry.{Entry}
-use Rattle.wire.specs.declared.parts.Entry.TheVariants.{AddMerkle, AddBlum, EvictMerkle, EvictBlum, EvictBlumMerkle, NextEpoch, VerifyEpoch, Get, Set}
-use Rattle.wire.specs.Meaning.{entry_of}
+use Rattle.model.specs.Monitor.{fits_32}
 use Rattle.admission.specs.Stand.{Named}
 
 pub named_same : (r e : ℕ) → r ≡ e → Named r e

@@ -9,7 +9,7 @@ use logfile::read_limits;
 use options::CheckOptions;
 use std::fs;
 use std::io::{BufWriter, Read, Write};
-use summary::{AnswerText, Summary};
+use summary::Summary;
 use watch::{Limits, open, words_needed};
 
 const STANDARD_INPUT: &str = "standard input";
@@ -127,8 +127,7 @@ fn check_events<R: Read>(
         held = after;
         summary.count(answer);
         if !options.quiet {
-            let text = AnswerText(answer);
-            reported(rt, STANDARD_OUTPUT, writeln!(out, "{text}"))?;
+            reported(rt, STANDARD_OUTPUT, writeln!(out, "{answer}"))?;
         }
         if options.progress && summary.events % PROGRESS_EVENTS == 0 {
             let events = summary.events;

@@ -10,12 +10,12 @@ ghost use Rattle.slot.specs.Parts.{part};
 ghost use Rattle.admission.specs.Stand.{Stands};
 ghost use Rattle.watch.specs.Promise.{IsRefused, Responds};
 
-use admission::{OUT_OF_RANGE, Standing, admitted, code};
+use admission::{Standing, admitted};
 use block::STORE;
 use finish::finish;
 use memory::{Limits, block_start};
 use step::step;
-use wire::{Answer, Entry};
+use wire::{Answer, Entry, Refusal};
 
 // Words of the header.
 const STOPPED: usize = 3;
@@ -23,9 +23,6 @@ const STOPPED: usize = 3;
 const CERTIFIED: usize = 4;
 
 const SECRET: usize = 8;
-
-// The code of the entry that tells how many epochs are certified.
-const VERIFY_EPOCH: u8 = 6;
 
 // How the monitor stands.
 fn standing(mem: &[u64], limits: Limits) -> Standing
@@ -61,17 +58,17 @@ pub fn logged(mem: &mut [u64], limits: Limits, verifier: u64, entry: Entry<'_>) 
     ensures responds { (l : Meant) (es : List Happened) → GoodLimits all_entries l → Agrees limits l → Kept l mem.old (state l es) → EntryParts entry.entry → Responds l (state l es) (logs verifier (entry_of entry.entry)) mem.new result }
 {
     if verifier >= limits.verifiers as u64 {
-        return Answer::Refused(OUT_OF_RANGE, 0);
+        return Answer::Refused(Refusal::OutOfRange.into(), 0);
     }
     let a = block_start(limits, verifier as usize);
     let past = a + STORE + 192 * limits.places;
     let standing = standing(mem, limits);
     let packed = match admitted(&mem[a..past], standing, entry) {
         Ok(packed) => packed,
-        Err(refusal) => return Answer::Refused(refusal, 0),
+        Err(refusal) => return Answer::Refused(refusal.into(), 0),
     };
     let secret = secret_of(mem);
-    let verifies = code(entry) == VERIFY_EPOCH;
+    let verifies = matches!(entry, Entry::VerifyEpoch);
     match step(
         &mut mem[a..past],
         limits.places,

@@ -7,7 +7,7 @@ use Rattle.model.specs.Program.{GoodLimits}
 use Rattle.wire.specs.Meaning.{entry_of}
 use Rattle.admission.specs.declared.standing.Standing.{Standing}
 use Rattle.admission.specs.Stand.{Stands, Named}
-use Rattle.admission.proofs.Refusals.{not_good, beyond, stopped_before, no_room, too_far, taken, far, near}
+use Rattle.admission.proofs.Refusals.{beyond, stopped_before, no_room, too_far, taken, far, near}
 use Rattle.admission.proofs.admitted.Goals as goal
 
 -- what code's tests say, in the definitions' words

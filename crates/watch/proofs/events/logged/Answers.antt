@@ -19,7 +19,7 @@ returns-then-verifier-limits c = record {
   responds = λ l es g a k parts.
       let s = state l es in
       let e = a.verifiers in
-      refused_kept l c.args.mem.now s c.args.verifier _ 2 k (no_verifier l s c.args.verifier _ (le-ltb c.args.verifier l.verifiers (omega (arith, c.if-verifier-limits.true)))) (omega arith);
+      rw c.into.ensures (refused_kept l c.args.mem.now s c.args.verifier _ 2 k (no_verifier l s c.args.verifier _ (le-ltb c.args.verifier l.verifiers (omega (arith, c.if-verifier-limits.true)))) (omega arith));
 }
 
 pub slice_bounds-admitted-end : goal.slice_bounds-admitted-end
