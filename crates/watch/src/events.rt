@@ -1,6 +1,6 @@
 // Events that are some verifier's entries.
-ghost use Rattle.std.specs.Prelude.{◌≡◌, ℕ, ◌≤◌, List, length};
-ghost use Rattle.model.specs.Monitor.{Limits as Meant, Event as Happened, State, logged as logs, state};
+ghost use Rattle.std.specs.Prelude.{◌≡◌, ℕ, ◌≤◌, List, length, nat_eq};
+ghost use Rattle.model.specs.Monitor.{Limits as Meant, Event as Happened, State, logged as logs, entry_code, state};
 ghost use Rattle.model.specs.Order.{all_entries};
 ghost use Rattle.model.specs.Program.{GoodLimits};
 ghost use Rattle.wire.specs.Meaning.{entry_of, EntryParts};
@@ -50,6 +50,14 @@ fn secret_of(mem: &[u64]) -> [u64; 4]
     secret
 }
 
+// Whether the entry tells how many epochs are certified.
+#[tactic(auto, unfolding(model::specs::Monitor::entry_code))]
+fn verifies_epoch(entry: Entry<'_>) -> bool
+    ensures { result ≡ nat_eq (entry_code (entry_of entry.entry)) 6 }
+{
+    matches!(entry, Entry::VerifyEpoch)
+}
+
 // The answer to an entry of a verifier: refused, and nothing is written; or looked at, by the rules. A wrong one stops everything.
 pub fn logged(mem: &mut [u64], limits: Limits, verifier: u64, entry: Entry<'_>) -> Answer
     requires bounded { Bounded limits }
@@ -68,7 +76,7 @@ pub fn logged(mem: &mut [u64], limits: Limits, verifier: u64, entry: Entry<'_>) 
         Err(refusal) => return Answer::Refused(refusal.into(), 0),
     };
     let secret = secret_of(mem);
-    let verifies = matches!(entry, Entry::VerifyEpoch);
+    let verifies = verifies_epoch(entry);
     match step(
         &mut mem[a..past],
         limits.places,

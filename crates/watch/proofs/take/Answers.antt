@@ -16,7 +16,7 @@ returns-in-Err c = record {
   answers = λ l es g k.
       let at = c.in-Err.field-0.at in
       let m = c.args.mem.now in
-      rw c.into.ensures
+      rw c.into-in-Err.ensures
       (subst (λ (e : Event). Answers l es e m (Refused 1 at)) c.in-Err.ensures.value
       (promised l es (malformed at) m _ (malformed_kept l m (state l es) at k)));
 }
