@@ -1,17 +1,8 @@
 -- The epoch that an entry names.
-use Rattle.std.proofs.Common.{◌≡◌, ℕ, suc, ◌+◌, ◌-◌, ◌^◌, ◌<◌, min, true, List, sym, refl, ap, ◌∙◌, ⊎_elim, arith, Bor}
+use Rattle.std.proofs.Common.{◌≡◌, ℕ, suc, ◌+◌, ◌-◌, ◌^◌, ◌<◌, min, true, sym, ap, ◌∙◌, ⊎_elim, arith}
 use Rattle.std.proofs.lemmas.Bool.{cases_lt, ltb-true, le-ltb}
-use Rattle.model.specs.Verifier.{Verifier}
-use Rattle.model.specs.Monitor.{epoch_named, fits_32}
-use Rattle.path.specs.declared.times.Timestamp.{Timestamp}
-use Rattle.reader.specs.declared.Record.{Record}
-use Rattle.wire.specs.declared.parts.Entry.{Entry}
-use Rattle.wire.specs.declared.parts.Entry.TheVariants.{AddMerkle, AddBlum, EvictMerkle, EvictBlum, EvictBlumMerkle, NextEpoch, VerifyEpoch, Get, Set}
-use Rattle.wire.specs.Meaning.{entry_of}
+use Rattle.model.specs.Monitor.{fits_32}
 use Rattle.admission.specs.Stand.{Named}
-
-abbrev Text : Type 0
-Text = Bor (List ℕ)
 
 pub named_same : (r e : ℕ) → r ≡ e → Named r e
 named_same r e h = record { fits = ap fits_32 h; is = λ _. h }
@@ -29,18 +20,3 @@ named_next r e h =
   where
     no_fit : (n : ℕ) → 4294967295 < n → fits_32 n ≡ true → ⊥
     no_fit n big f = let h = ltb-true n 4294967296 f in omega arith
-
--- the other entries name none
-pub names_none : (v : Verifier) (e : Entry)
-    → ((r : Record) (m : Timestamp) (j : ℕ) (x : Text) → e ≡ AddBlum r m j x → ⊥) → ((p : Text) (m : Timestamp) → e ≡ EvictBlum p m → ⊥)
-    → ((p q : Text) (m : Timestamp) → e ≡ EvictBlumMerkle p q m → ⊥) → (e ≡ NextEpoch → ⊥) → epoch_named v (entry_of e) ≡ 0
-unfolding epoch_named
-names_none v (AddMerkle r q) a b c d = refl
-names_none v (AddBlum r m j x) a b c d = absurd (a r m j x refl)
-names_none v (EvictMerkle p q) a b c d = refl
-names_none v (EvictBlum p m) a b c d = absurd (b p m refl)
-names_none v (EvictBlumMerkle p q m) a b c d = absurd (c p q m refl)
-names_none v NextEpoch a b c d = absurd (d refl)
-names_none v VerifyEpoch a b c d = refl
-names_none v (Get k t) a b c d = refl
-names_none v (Set k t) a b c d = refl

@@ -1,13 +1,10 @@
 -- Which refusal it is, by the first test that fails.
-use Rattle.std.proofs.Common.{◌≡◌, ℕ, ◌+◌, ◌-◌, ◌^◌, ◌<◌, ◌≤◌, min, Bool, true, false, ◌&&◌, ltb, leb, refl, arith}
+use Rattle.std.proofs.Common.{◌≡◌, ℕ, ◌+◌, ◌-◌, ◌^◌, ◌<◌, ◌≤◌, min, true, false, ltb, leb, refl, arith}
+use Rattle.std.proofs.Math.Bool.{and-false}
 use Rattle.std.proofs.lemmas.Bool.{lt-ltb, le-leb, lt-leb}
 use Rattle.model.specs.Records.{pick}
 use Rattle.model.specs.Verifier.{Entry}
 use Rattle.model.specs.Monitor.{Limits, State, logged, verifier_at, entry_code, good_entry, epoch_named, fits_32, in_range, store_full, too_far_ahead, refusal}
-
-and_false : (b : Bool) → (b && false) ≡ false
-and_false true = refl
-and_false false = refl
 
 module _ (l : Limits) (s : State) (t : ℕ) (e : Entry) where
   out : in_range l s t e ≡ false → refusal l s (logged t e) ≡ 2
@@ -17,14 +14,8 @@ module _ (l : Limits) (s : State) (t : ℕ) (e : Entry) where
   pub no_verifier : ltb t l.verifiers ≡ false → refusal l s (logged t e) ≡ 2
   no_verifier h = out (rw h refl)
 
-  pub unsupported : l.supports (entry_code e) ≡ false → refusal l s (logged t e) ≡ 2
-  unsupported h = out (rw (h, and_false) refl)
-
-  pub not_good : good_entry l e ≡ false → refusal l s (logged t e) ≡ 2
-  not_good h = out (rw (h, and_false) refl)
-
   pub beyond : fits_32 (epoch_named (verifier_at s.verifiers t) e) ≡ false → refusal l s (logged t e) ≡ 2
-  beyond h = out (rw (h, and_false) refl)
+  beyond h = out (rw (h, and-false) refl)
 
   module _ (within : t < l.verifiers) (can : l.supports (entry_code e) ≡ true) (good : good_entry l e ≡ true) (fits : fits_32 (epoch_named (verifier_at s.verifiers t) e) ≡ true) where
     inside : in_range l s t e ≡ true

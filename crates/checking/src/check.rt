@@ -7,7 +7,7 @@ use logfile::{Frame, LENGTH_BYTES, Limits, cut_at, frame_at, read_limits};
 use options::CheckOptions;
 use std::fs;
 use std::io::{Read, Write};
-use summary::{AnswerText, Summary};
+use summary::Summary;
 use wire::Answer;
 
 const STANDARD_INPUT: &str = "standard input";
@@ -85,8 +85,7 @@ fn check_events<'a, M: Monitor, R: Read + Drop, W: Write>(
         };
         summary.count(answer);
         if !options.quiet {
-            let text = AnswerText(answer);
-            writeln!(out, "{text}").map_err(unwritten)?;
+            writeln!(out, "{answer}").map_err(unwritten)?;
         }
         if options.progress && summary.events.is_multiple_of(PROGRESS_EVENTS) {
             let events = summary.events;

@@ -6,20 +6,15 @@ ghost use Rattle.model.specs.Monitor.{Limits, State, malformed, answer as answer
 ghost use Rattle.model.specs.Wire.{read as reading};
 ghost use Rattle.wire.specs.Meaning.{answer_of};
 
-use wire::{Answer, Event, read};
-
-// The first two of the fixed list of refusals.
-const MALFORMED: u8 = 1;
-
-const OUT_OF_RANGE: u8 = 2;
+use wire::{Answer, Malformed, Refusal, read};
 
 // The answer to an event of these bytes: what the rules answer, in any state, under limits that support no entry.
 pub fn answer(event: &[u8]) -> Answer
     ensures { (l : Limits) (s : State) → ((k : ℕ) → l.supports k ≡ false) → answer_of result ≡ answering l s (reading event.now) }
 {
     match read(event) {
-        Event::Malformed(place) => Answer::Refused(MALFORMED, place as u64),
-        Event::Logged(_, _) => Answer::Refused(OUT_OF_RANGE, 0),
+        Err(Malformed { at }) => Answer::Refused(Refusal::Malformed.into(), at as u64),
+        Ok(_) => Answer::Refused(Refusal::OutOfRange.into(), 0),
     }
 }
 
@@ -27,5 +22,5 @@ pub fn answer(event: &[u8]) -> Answer
 pub fn answer_cut(len: usize) -> Answer
     ensures { (l : Limits) (s : State) → answer_of result ≡ answering l s (malformed len) }
 {
-    Answer::Refused(MALFORMED, len as u64)
+    Answer::Refused(Refusal::Malformed.into(), len as u64)
 }

@@ -1,2 +1,1 @@
 mod Ranged
-mod Told

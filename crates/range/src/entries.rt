@@ -16,12 +16,8 @@ pub fn add_merkle(record: Record<'_>, above: &[u8]) -> Option<Packed>
     ensures some { is_some result ≡ (good_record (record_of «record».entry) && good_node_path above.now) }
     ensures packed { IfSome result (λ p. (bits_of p.above ≡ above.now) × PacksRecord «record».entry p) }
 {
-    let Some(packed) = of_record(record) else {
-        return None;
-    };
-    let Some(above) = node_path(above) else {
-        return None;
-    };
+    let packed = of_record(record)?;
+    let above = node_path(above)?;
     Some(Packed { above, ..packed })
 }
 
@@ -47,12 +43,8 @@ pub fn evict_merkle(path: &[u8], above: &[u8]) -> Option<Packed>
     ensures some { is_some result ≡ (good_path path.now && good_node_path above.now) }
     ensures packed { IfSome result (λ p. (bits_of p.path ≡ path.now) × (bits_of p.above ≡ above.now)) }
 {
-    let Some(path) = path_from_bits(path) else {
-        return None;
-    };
-    let Some(above) = node_path(above) else {
-        return None;
-    };
+    let path = path_from_bits(path)?;
+    let above = node_path(above)?;
     Some(Packed {
         path,
         above,
@@ -67,9 +59,7 @@ pub fn evict_blum(path: &[u8], timestamp: Timestamp) -> Option<Packed>
     if !is_good_timestamp(timestamp) {
         return None;
     }
-    let Some(path) = path_from_bits(path) else {
-        return None;
-    };
+    let path = path_from_bits(path)?;
     Some(Packed { path, ..nothing() })
 }
 

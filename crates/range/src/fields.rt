@@ -36,25 +36,22 @@ pub fn node_path(bits: &[u8]) -> Option<Path>
 }
 
 // A child pointer by value.
+#[tactic(auto, using(crate::proofs::Ranged::hash_in), unfolding(model::specs::Monitor::good_pointer))]
 pub fn child(pointer: Pointer<'_>) -> Option<Child>
     ensures some { is_some result ≡ good_pointer (pointer_of pointer.entry) }
     ensures child { IfSome result (λ c. child_meant c ≡ pointer_of pointer.entry) }
 {
-    let Pointer::Present {
-        path,
-        hash,
-        in_blum,
-    } = pointer
-    else {
-        return Some(Child::Absent);
-    };
-    let Some(packed) = path_from_bits(path) else {
-        return None;
-    };
-    Some(present(packed, &hash, in_blum))
+    match pointer {
+        Pointer::Absent => Some(Child::Absent),
+        Pointer::Present {
+            path,
+            hash,
+            in_blum,
+        } => Some(present(path_from_bits(path)?, &hash, in_blum)),
+    }
 }
 
-// The pointer with these parts. That a hash fits is known of words that are lent and read one by one.
+// The pointer with these parts. That a hash fits is known of words that are lent and read one by one, and not of a case's array.
 fn present(path: Path, hash: &[u64], in_blum: bool) -> Child
     requires { length hash.now ≡ 4 }
     ensures child { child_meant result ≡ there (bits_of path) (number_in hash.now) in_blum }
@@ -69,16 +66,11 @@ pub fn is_good_timestamp(timestamp: Timestamp) -> bool
     timestamp.epoch <= MAX && timestamp.counter < MAX
 }
 
-// Are a key and its value short enough?
+// Whether a key and its value are short enough.
+#[tactic(auto, unfolding(model::specs::Monitor::good_value))]
 pub fn is_good_call(key: &[u8], value: Option<&[u8]>) -> bool
     ensures good { result ≡ (good_key key.now && good_value (value_of value.entry)) }
     ensures short { result ≡ true → Short key.now value.entry }
 {
-    if key.len() > KEY_BYTES {
-        return false;
-    }
-    let Some(bytes) = value else {
-        return true;
-    };
-    bytes.len() <= VALUE_BYTES
+    key.len() <= KEY_BYTES && value.is_none_or(|bytes| bytes.len() <= VALUE_BYTES)
 }

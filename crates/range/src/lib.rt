@@ -15,6 +15,7 @@ pub use packed::Packed;
 use wire::Entry;
 
 // What an entry names, if all of it is in range for this many verifiers.
+#[tactic(auto, unfolding(model::specs::Monitor::good_entry))]
 pub fn in_range(entry: Entry<'_>, verifiers: u64) -> Option<Packed>
     ensures some { (l : Limits) → l.verifiers ≡ verifiers → is_some result ≡ good_entry l (entry_of entry.entry) }
     ensures packed { IfSome result (PacksEntry entry.entry) }

@@ -27,25 +27,16 @@ pub fn of_call(key: &[u8], value: Option<&[u8]>) -> Option<Packed>
     ensures some { is_some result ≡ (good_key key.now && good_value (value_of value.entry)) }
     ensures short { OnSome result (Short key.now value.entry) }
 {
-    if !is_good_call(key, value) {
-        return None;
-    }
-    Some(nothing())
+    is_good_call(key, value).then(nothing)
 }
 
 fn of_node(path: &[u8], left: Pointer<'_>, right: Pointer<'_>) -> Option<Packed>
     ensures some { is_some result ≡ (good_node_path path.now && (good_pointer (pointer_of left.entry) && good_pointer (pointer_of right.entry))) }
     ensures packed { IfSome result (λ p. (bits_of p.path ≡ path.now) × (child_meant p.left ≡ pointer_of left.entry) × (child_meant p.right ≡ pointer_of right.entry)) }
 {
-    let Some(path) = node_path(path) else {
-        return None;
-    };
-    let Some(left) = child(left) else {
-        return None;
-    };
-    let Some(right) = child(right) else {
-        return None;
-    };
+    let path = node_path(path)?;
+    let left = child(left)?;
+    let right = child(right)?;
     Some(Packed {
         path,
         left,
@@ -54,6 +45,7 @@ fn of_node(path: &[u8], left: Pointer<'_>, right: Pointer<'_>) -> Option<Packed>
     })
 }
 
+#[tactic(auto, unfolding(model::specs::Monitor::good_record))]
 pub fn of_record(record: Record<'_>) -> Option<Packed>
     ensures some { is_some result ≡ good_record (record_of «record».entry) }
     ensures packed { IfSome result (PacksRecord «record».entry) }

@@ -1,11 +1,11 @@
 // Fields and records read from bytes, without a copy.
 #![tactic(auto)]
 
-ghost use Rattle.std.specs.Prelude.{◌≡◌, ◌<◌, true, length, IfSome};
+ghost use Rattle.std.specs.Prelude.{◌≡◌, ℕ, Bool, true, length, IfSome};
 ghost use Rattle.std.specs.Option.{option_map};
-ghost use Rattle.model.specs.Records.{le_number};
+ghost use Rattle.std.specs.Int.{from_bool};
 ghost use Rattle.model.specs.Readable.{all_below};
-ghost use Rattle.model.specs.Wire.{reads_chunk, reads_number, reads_tag, reads_just, reads_sized, reads_value, reads_pointer, reads_contents, reads_record, reads_timestamp};
+ghost use Rattle.model.specs.Wire.{reads_chunk, reads_number, reads_one, reads_tag, reads_just, reads_sized, reads_value, reads_pointer, reads_contents, reads_record, reads_timestamp};
 ghost use Rattle.reader.specs.Meaning.{out, hash_number, value_of, pointer_of, contents_of, record_of, timestamp_of, MerklePart};
 
 pub use path::Timestamp;
@@ -45,119 +45,109 @@ pub struct Record<'a> {
     pub merkle_bytes: &'a [u8],
 }
 
-// How many bytes a length, a number and a hash have.
-const LENGTH_BYTES: usize = 2;
-
-const NUMBER_BYTES: usize = 8;
-
-const HASH_BYTES: usize = 32;
-
-// The number that eight bytes are, the low one first.
-fn word(bytes: &[u8]) -> u64
-    requires { length bytes.now ≡ 8 }
-    ensures { result ≡ le_number bytes.now }
-{
-    u64::from_le_bytes([
-        bytes[0], bytes[1], bytes[2], bytes[3], bytes[4], bytes[5], bytes[6], bytes[7],
-    ])
-}
-
 // How many bytes there are. That each is below 256 is known only of a slice that is passed, so it is said here for callers.
 pub fn byte_len(bytes: &[u8]) -> usize
     ensures value { result ≡ length bytes.now }
     ensures small { all_below 256 bytes.now ≡ true }
 {
-    if bytes.is_empty() {
-        return 0;
-    }
     bytes.len()
 }
 
 impl<'a> Reader<'a> {
-    // A byte below `end`.
-    pub fn tag(&mut self, end: u16) -> Option<u8>
-        ensures { reads_tag end self.old.rest.now ≡ out result self.new.rest.now }
+    // The next byte, if it is fit.
+    fn byte<F: Fn(u8) -> bool>(&mut self, is_fit: F) -> Option<u8>
+        requires { F.IsAlwaysCallable is_fit }
+        ensures { (fit : ℕ → Bool) → ((x : ℕ) (b : Bool) → F.post is_fit x b → fit x ≡ b) → reads_one fit self.old.rest.now ≡ out result self.new.rest.now }
     {
-        let [first, rest @ ..] = self.rest else {
-            return None;
-        };
-        if *first as u16 >= end {
+        let (first, rest) = self.rest.split_first()?;
+        if !is_fit(*first) {
             return None;
         }
         self.rest = rest;
         Some(*first)
     }
 
+    // A byte below `end`.
+    pub fn tag(&mut self, end: u16) -> Option<u8>
+        ensures { reads_tag end self.old.rest.now ≡ out result self.new.rest.now }
+    {
+        self.byte(|b| u16::from(b) < end)
+    }
+
     // The byte `is`.
     fn just(&mut self, is: u8) -> Option<u8>
         ensures { reads_just is self.old.rest.now ≡ out result self.new.rest.now }
     {
-        let [first, rest @ ..] = self.rest else {
-            return None;
-        };
-        if *first != is {
-            return None;
-        }
-        self.rest = rest;
-        Some(is)
+        self.byte(|b| b == is)
+    }
+
+    // 0 or 1.
+    fn flag(&mut self) -> Option<bool>
+        ensures { reads_tag 2 self.old.rest.now ≡ out (option_map from_bool result) self.new.rest.now }
+    {
+        Some(self.tag(2)? == 1)
     }
 
     // The next `n` bytes.
+    #[tactic(auto, using(crate::proofs::Steps::chunk_short, crate::proofs::Steps::chunk_long))]
     fn chunk(&mut self, n: usize) -> Option<&'a [u8]>
         ensures reads { reads_chunk n self.old.rest.now ≡ out (option_map (λ x. x.now) result) self.new.rest.now }
         ensures len { IfSome result (λ x. length x.now ≡ n) }
     {
         let all = self.rest;
-        if n > all.len() {
+        let Some((bytes, rest)) = all.split_at_checked(n) else {
             self.rest = &all[all.len()..];
             return None;
-        }
-        self.rest = &all[n..];
-        Some(&all[0..n])
+        };
+        self.rest = rest;
+        Some(bytes)
+    }
+
+    // The next `N` bytes, as an array.
+    fn array<const N: usize>(&mut self) -> Option<&'a [u8; N]>
+        ensures reads { reads_chunk N self.old.rest.now ≡ out (option_map (λ x. x.now) result) self.new.rest.now }
+        ensures len { IfSome result (λ x. length x.now ≡ N) }
+    {
+        self.chunk(N)?.as_array()
     }
 
     // A length, in two bytes.
+    #[tactic(auto, unfolding(model::specs::Wire::reads_number))]
     fn size(&mut self) -> Option<usize>
         ensures { reads_number 2 self.old.rest.now ≡ out result self.new.rest.now }
     {
-        let Some(bytes) = self.chunk(LENGTH_BYTES) else {
-            return None;
-        };
-        Some(bytes[0] as usize + 256 * bytes[1] as usize)
+        let bytes = self.array::<2>()?;
+        Some(usize::from(u16::from_le_bytes(*bytes)))
     }
 
     // A number, in eight bytes.
+    #[tactic(auto, unfolding(model::specs::Wire::reads_number))]
     pub fn number(&mut self) -> Option<u64>
         ensures { reads_number 8 self.old.rest.now ≡ out result self.new.rest.now }
     {
-        let Some(bytes) = self.chunk(NUMBER_BYTES) else {
-            return None;
-        };
-        Some(word(bytes))
+        let bytes = self.array::<8>()?;
+        Some(u64::from_le_bytes(*bytes))
     }
 
-    // A hash, in 32 bytes.
+    // A hash, in four numbers.
+    #[tactic(auto, using(crate::proofs::Steps::hash_words))]
     fn hash(&mut self) -> Option<[u64; 4]>
         ensures { reads_number 32 self.old.rest.now ≡ out (option_map hash_number result) self.new.rest.now }
     {
-        let Some(bytes) = self.chunk(HASH_BYTES) else {
-            return None;
-        };
         Some([
-            word(&bytes[0..8]),
-            word(&bytes[8..16]),
-            word(&bytes[16..24]),
-            word(&bytes[24..32]),
+            self.number()?,
+            self.number()?,
+            self.number()?,
+            self.number()?,
         ])
     }
 
     // A path, a key or a text, after its length.
+    #[tactic(auto, unfolding(model::specs::Wire::reads_sized))]
     pub fn sized(&mut self) -> Option<&'a [u8]>
         ensures { reads_sized self.old.rest.now ≡ out (option_map (λ x. x.now) result) self.new.rest.now }
     {
-        let Some(n) = self.size() else {
-            return None;
-        };
+        let n = self.size()?;
         self.chunk(n)
     }
 
@@ -165,15 +155,10 @@ impl<'a> Reader<'a> {
     pub fn value(&mut self) -> Option<Option<&'a [u8]>>
         ensures { reads_value self.old.rest.now ≡ out (option_map value_of result) self.new.rest.now }
     {
-        let Some(there) = self.tag(2) else {
-            return None;
-        };
-        if there == 0 {
+        if !self.flag()? {
             return Some(None);
         }
-        let Some(value) = self.sized() else {
-            return None;
-        };
+        let value = self.sized()?;
         Some(Some(value))
     }
 
@@ -181,56 +166,38 @@ impl<'a> Reader<'a> {
     fn pointer(&mut self) -> Option<Pointer<'a>>
         ensures { reads_pointer self.old.rest.now ≡ out (option_map pointer_of result) self.new.rest.now }
     {
-        let Some(there) = self.tag(2) else {
-            return None;
-        };
-        if there == 0 {
+        if !self.flag()? {
             return Some(Pointer::Absent);
         }
-        let Some(flag) = self.tag(2) else {
-            return None;
-        };
-        let Some(path) = self.sized() else {
-            return None;
-        };
-        let Some(hash) = self.hash() else {
-            return None;
-        };
+        let in_blum = self.flag()?;
+        let path = self.sized()?;
+        let hash = self.hash()?;
         Some(Pointer::Present {
             path,
             hash,
-            in_blum: flag == 1,
+            in_blum,
         })
     }
 
     pub fn timestamp(&mut self) -> Option<Timestamp>
         ensures { reads_timestamp self.old.rest.now ≡ out (option_map timestamp_of result) self.new.rest.now }
     {
-        let Some(epoch) = self.number() else {
-            return None;
-        };
-        let Some(counter) = self.number() else {
-            return None;
-        };
+        let epoch = self.number()?;
+        let counter = self.number()?;
         Some(Timestamp { epoch, counter })
     }
 
     // The rest of a record of this kind: of a key, its value; of a node, its children.
+    // The kind stays the format's number: the second mention of it is compared with the first.
     fn contents(&mut self, kind: u8, name: &'a [u8]) -> Option<Contents<'a>>
         ensures { reads_contents kind name.now self.old.rest.now ≡ out (option_map (contents_of name.now) result) self.new.rest.now }
     {
         if kind == 0 {
-            let Some(value) = self.value() else {
-                return None;
-            };
+            let value = self.value()?;
             return Some(Contents::Value(value));
         }
-        let Some(left) = self.pointer() else {
-            return None;
-        };
-        let Some(right) = self.pointer() else {
-            return None;
-        };
+        let left = self.pointer()?;
+        let right = self.pointer()?;
         Some(Contents::Children { left, right })
     }
 
@@ -239,20 +206,12 @@ impl<'a> Reader<'a> {
         ensures reads { reads_record self.old.rest.now ≡ out (option_map record_of result) self.new.rest.now }
         ensures merkle { IfSome result MerklePart }
     {
-        let Some(kind) = self.tag(2) else {
-            return None;
-        };
-        let Some(name) = self.sized() else {
-            return None;
-        };
+        let kind = self.tag(2)?;
+        let name = self.sized()?;
         let all = self.rest;
         let size = byte_len(all);
-        let Some(_) = self.just(kind) else {
-            return None;
-        };
-        let Some(contents) = self.contents(kind, name) else {
-            return None;
-        };
+        self.just(kind)?;
+        let contents = self.contents(kind, name)?;
         let merkle_bytes = &all[0..size - self.rest.len()];
         Some(Record {
             name,

@@ -1,14 +1,8 @@
--- The text of an answer, and the answers to a log, counted.
+-- The answers to a log, counted.
 use Rattle.std.specs.Prelude.{ℕ, ◌+◌, ◌-◌, ◌^◌, min, List, ◌++◌, Some, None, codes, decimal, Option}
 use Rattle.wire.specs.declared.parts.Answer.{Answer}
 use Rattle.wire.specs.declared.parts.Answer.TheVariants.{Refused, Wrong, Right, Certified}
 use Rattle.summary.specs.declared.Summary.{Summary}
-
-abbrev pub answer_text : Answer → List ℕ
-answer_text (Refused n place) = codes "refused " ++ (decimal n ++ (codes " " ++ decimal place))
-answer_text Wrong = codes "wrong"
-answer_text Right = codes "right"
-answer_text (Certified n) = codes "certified " ++ decimal n
 
 -- one more, of which 64 bits can tell
 abbrev pub more : ℕ → ℕ

@@ -1,28 +1,11 @@
-// Answers as text, and what the answers to a log come to.
+// What the answers to a log come to.
 #![tactic(auto)]
 
 ghost use Rattle.std.specs.Prelude.{◌≡◌, is_some, Some};
-ghost use Rattle.summary.specs.Counted.{none_yet, counted, answer_text, summary_text};
+ghost use Rattle.summary.specs.Counted.{none_yet, counted, summary_text};
 
 use std::fmt;
 use wire::Answer;
-
-// An answer as one line has it.
-#[derive(Clone, Copy)]
-pub struct AnswerText(pub Answer);
-
-impl fmt::Display for AnswerText {
-    ghost output = { λ a. Some (answer_text a.0) };
-
-    fn fmt<W: fmt::Write>(&self, f: &mut fmt::Formatter<W>) -> fmt::Result {
-        match self.0 {
-            Answer::Refused(refusal, place) => write!(f, "refused {refusal} {place}"),
-            Answer::Wrong => f.write_str("wrong"),
-            Answer::Right => f.write_str("right"),
-            Answer::Certified(epochs) => write!(f, "certified {epochs}"),
-        }
-    }
-}
 
 #[derive(Clone, Copy, Debug, PartialEq, Eq)]
 pub struct Summary {
@@ -61,11 +44,7 @@ impl Summary {
                 self.right = self.right.saturating_add(1);
                 self.certified = epochs;
             }
-            Answer::Wrong => {
-                if self.wrong.is_none() {
-                    self.wrong = Some(self.events);
-                }
-            }
+            Answer::Wrong => self.wrong = self.wrong.or(Some(self.events)),
         }
     }
 
@@ -80,11 +59,14 @@ impl fmt::Display for Summary {
     ghost output = { λ s. Some (summary_text s) };
 
     fn fmt<W: fmt::Write>(&self, f: &mut fmt::Formatter<W>) -> fmt::Result {
-        let events = self.events;
-        let right = self.right;
-        let refused = self.refused;
-        let certified = self.certified;
-        match self.wrong {
+        let Summary {
+            events,
+            right,
+            refused,
+            wrong,
+            certified,
+        } = *self;
+        match wrong {
             None => write!(
                 f,
                 "{events} events: {right} right, {refused} refused, not wrong, {certified} epochs certified"

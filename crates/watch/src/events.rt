@@ -1,6 +1,6 @@
 // Events that are some verifier's entries.
-ghost use Rattle.std.specs.Prelude.{◌≡◌, ℕ, ◌≤◌, List, length};
-ghost use Rattle.model.specs.Monitor.{Limits as Meant, Event as Happened, State, logged as logs, state};
+ghost use Rattle.std.specs.Prelude.{◌≡◌, ℕ, ◌≤◌, List, length, nat_eq};
+ghost use Rattle.model.specs.Monitor.{Limits as Meant, Event as Happened, State, logged as logs, entry_code, state};
 ghost use Rattle.model.specs.Order.{all_entries};
 ghost use Rattle.model.specs.Program.{GoodLimits};
 ghost use Rattle.wire.specs.Meaning.{entry_of, EntryParts};
@@ -10,12 +10,12 @@ ghost use Rattle.slot.specs.Parts.{part};
 ghost use Rattle.admission.specs.Stand.{Stands};
 ghost use Rattle.watch.specs.Promise.{IsRefused, Responds};
 
-use admission::{OUT_OF_RANGE, Standing, admitted, code};
+use admission::{Standing, admitted};
 use block::STORE;
 use finish::finish;
 use memory::{Limits, block_start};
 use step::step;
-use wire::{Answer, Entry};
+use wire::{Answer, Entry, Refusal};
 
 // Words of the header.
 const STOPPED: usize = 3;
@@ -23,9 +23,6 @@ const STOPPED: usize = 3;
 const CERTIFIED: usize = 4;
 
 const SECRET: usize = 8;
-
-// The code of the entry that tells how many epochs are certified.
-const VERIFY_EPOCH: u8 = 6;
 
 // How the monitor stands.
 fn standing(mem: &[u64], limits: Limits) -> Standing
@@ -53,6 +50,14 @@ fn secret_of(mem: &[u64]) -> [u64; 4]
     secret
 }
 
+// Whether the entry tells how many epochs are certified.
+#[tactic(auto, unfolding(model::specs::Monitor::entry_code))]
+fn verifies_epoch(entry: Entry<'_>) -> bool
+    ensures { result ≡ nat_eq (entry_code (entry_of entry.entry)) 6 }
+{
+    matches!(entry, Entry::VerifyEpoch)
+}
+
 // The answer to an entry of a verifier: refused, and nothing is written; or looked at, by the rules. A wrong one stops everything.
 pub fn logged(mem: &mut [u64], limits: Limits, verifier: u64, entry: Entry<'_>) -> Answer
     requires bounded { Bounded limits }
@@ -61,17 +66,17 @@ pub fn logged(mem: &mut [u64], limits: Limits, verifier: u64, entry: Entry<'_>) 
     ensures responds { (l : Meant) (es : List Happened) → GoodLimits all_entries l → Agrees limits l → Kept l mem.old (state l es) → EntryParts entry.entry → Responds l (state l es) (logs verifier (entry_of entry.entry)) mem.new result }
 {
     if verifier >= limits.verifiers as u64 {
-        return Answer::Refused(OUT_OF_RANGE, 0);
+        return Answer::Refused(Refusal::OutOfRange.into(), 0);
     }
     let a = block_start(limits, verifier as usize);
     let past = a + STORE + 192 * limits.places;
     let standing = standing(mem, limits);
     let packed = match admitted(&mem[a..past], standing, entry) {
         Ok(packed) => packed,
-        Err(refusal) => return Answer::Refused(refusal, 0),
+        Err(refusal) => return Answer::Refused(refusal.into(), 0),
     };
     let secret = secret_of(mem);
-    let verifies = code(entry) == VERIFY_EPOCH;
+    let verifies = verifies_epoch(entry);
     match step(
         &mut mem[a..past],
         limits.places,

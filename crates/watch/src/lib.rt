@@ -13,14 +13,10 @@ ghost use Rattle.watch.specs.Whole.{Faithful};
 
 mod events;
 
-use admission::OUT_OF_RANGE;
 use events::logged;
 use memory::limits_of;
 pub use memory::{Limits, open, words_needed};
-use wire::{Answer, Event, read};
-
-// The first of the fixed list of refusals.
-const MALFORMED: u8 = 1;
+use wire::{Answer, Event, Malformed, Refusal, read};
 
 // Takes the event of these bytes. Where the memory holds the monitor after a log, the answer is what the rules answer, the memory then holds
 // the monitor after that event too, and all calls in certified epochs are in one order, or two things in this very log collide. A refusal writes nothing.
@@ -31,11 +27,11 @@ pub fn take(mem: &mut [u64], event: &[u8]) -> Answer
     ensures answers { (l : Meant) (es : List Happened) → GoodLimits all_entries l → Kept l mem.old (state l es) → Answers l es (reading event.now) mem.new result }
 {
     let Some(limits) = limits_of(mem) else {
-        return Answer::Refused(OUT_OF_RANGE, 0);
+        return Answer::Refused(Refusal::OutOfRange.into(), 0);
     };
     match read(event) {
-        Event::Malformed(place) => Answer::Refused(MALFORMED, place as u64),
-        Event::Logged(verifier, entry) => logged(mem, limits, verifier, entry),
+        Err(Malformed { at }) => Answer::Refused(Refusal::Malformed.into(), at as u64),
+        Ok(Event { verifier, entry }) => logged(mem, limits, verifier, entry),
     }
 }
 
@@ -43,7 +39,7 @@ pub fn take(mem: &mut [u64], event: &[u8]) -> Answer
 pub fn take_cut(len: usize) -> Answer
     ensures { (l : Meant) (es : List Happened) (mem : List ℕ) → GoodLimits all_entries l → Kept l mem (state l es) → Answers l es (malformed len) mem result }
 {
-    Answer::Refused(MALFORMED, len as u64)
+    Answer::Refused(Refusal::Malformed.into(), len as u64)
 }
 
 // A program that does on each event what `take` and `take_cut` do, over memory that `open` opened, answers after any log as the rules do,

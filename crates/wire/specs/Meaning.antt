@@ -1,12 +1,14 @@
 -- What the values of the code mean.
-use Rattle.std.specs.Prelude.{◌≡◌, ◌<◌}
+use Rattle.std.specs.Prelude.{◌≡◌, ℕ, ◌<◌, List, ◌++◌, Ok, Err, Result, codes, decimal}
 use Rattle.model.specs.Verifier as verifier
 use Rattle.model.specs.Monitor as monitor
 use Rattle.reader.specs.Meaning.{value_of, record_of, timestamp_of, MerklePart}
 use Rattle.wire.specs.declared.parts.Entry.{Entry}
 use Rattle.wire.specs.declared.parts.Entry.TheVariants.{AddMerkle, AddBlum, EvictMerkle, EvictBlum, EvictBlumMerkle, NextEpoch, VerifyEpoch, Get, Set}
 use Rattle.wire.specs.declared.parts.Event.{Event}
-use Rattle.wire.specs.declared.parts.Event.TheVariants.{Logged, Malformed}
+use Rattle.wire.specs.declared.parts.Malformed.{Malformed}
+use Rattle.wire.specs.declared.parts.Refusal.{Refusal}
+use Rattle.wire.specs.declared.parts.Refusal.TheVariants as refusals
 use Rattle.wire.specs.declared.parts.Answer.{Answer}
 use Rattle.wire.specs.declared.parts.Answer.TheVariants.{Refused, Wrong, Right, Certified}
 
@@ -21,15 +23,34 @@ entry_of VerifyEpoch = verifier.verify_epoch
 entry_of (Get k t) = verifier.get k.now (value_of t)
 entry_of (Set k t) = verifier.set k.now t.now
 
-abbrev pub event_of : Event → monitor.Event
-event_of (Logged t e) = monitor.logged t (entry_of e)
-event_of (Malformed n) = monitor.malformed n
+abbrev pub logged_of : Event → monitor.Event
+logged_of e = monitor.logged e.verifier (entry_of e.entry)
+
+-- what bytes are: an event, or malformed
+abbrev pub event_of : Result Event Malformed → monitor.Event
+event_of (Ok e) = logged_of e
+event_of (Err m) = monitor.malformed m.at
+
+-- the number of a refusal in the model's list
+abbrev pub refusal_code : Refusal → ℕ
+refusal_code refusals.Malformed = 1
+refusal_code refusals.OutOfRange = 2
+refusal_code refusals.Stopped = 3
+refusal_code refusals.Full = 4
+refusal_code refusals.TooFarAhead = 5
 
 abbrev pub answer_of : Answer → monitor.Answer
 answer_of (Refused c p) = monitor.refused c p
 answer_of Wrong = monitor.wrong
 answer_of Right = monitor.right
 answer_of (Certified n) = monitor.certified n
+
+-- the text of an answer
+abbrev pub answer_text : Answer → List ℕ
+answer_text (Refused n place) = codes "refused " ++ (decimal n ++ (codes " " ++ decimal place))
+answer_text Wrong = codes "wrong"
+answer_text Right = codes "right"
+answer_text (Certified n) = codes "certified " ++ decimal n
 
 -- the parts of the input that an entry hands out are what its record's Merkle hash and its element's hash are taken over
 abbrev pub EntryParts : Entry → Type 0
@@ -43,6 +64,6 @@ EntryParts VerifyEpoch = Unit {0}
 EntryParts (Get k t) = Unit {0}
 EntryParts (Set k t) = Unit {0}
 
-abbrev pub EventParts : Event → Type 0
-EventParts (Logged t e) = EntryParts e
-EventParts (Malformed n) = Unit {0}
+abbrev pub EventParts : Result Event Malformed → Type 0
+EventParts (Ok e) = EntryParts e.entry
+EventParts (Err m) = Unit {0}

@@ -17,22 +17,17 @@ const BYTES: u16 = 256;
 fn fields(reader: &mut Reader<'_>, kind: u8) -> Option<Answer>
     ensures { reads_answer_fields kind reader.old.rest.now ≡ out (option_map answer_of result) reader.new.rest.now }
 {
+    // The format's table of kinds: an enum in between would list the same names twice.
     match kind {
         0 => {
-            let Some(refusal) = reader.tag(BYTES) else {
-                return None;
-            };
-            let Some(place) = reader.number() else {
-                return None;
-            };
+            let refusal = reader.tag(BYTES)?;
+            let place = reader.number()?;
             Some(Answer::Refused(refusal, place))
         }
         1 => Some(Answer::Wrong),
         2 => Some(Answer::Right),
         _ => {
-            let Some(epochs) = reader.number() else {
-                return None;
-            };
+            let epochs = reader.number()?;
             Some(Answer::Certified(epochs))
         }
     }
@@ -41,8 +36,6 @@ fn fields(reader: &mut Reader<'_>, kind: u8) -> Option<Answer>
 pub fn answer(reader: &mut Reader<'_>) -> Option<Answer>
     ensures { reads_answer reader.old.rest.now ≡ out (option_map answer_of result) reader.new.rest.now }
 {
-    let Some(kind) = reader.tag(KINDS) else {
-        return None;
-    };
+    let kind = reader.tag(KINDS)?;
     fields(reader, kind)
 }

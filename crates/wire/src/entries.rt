@@ -3,7 +3,7 @@ ghost use Rattle.std.specs.Prelude.{◌≡◌, IfSome};
 ghost use Rattle.std.specs.Option.{option_map};
 ghost use Rattle.model.specs.Wire.{reads_add_merkle, reads_add_blum, reads_evict_merkle, reads_evict_blum, reads_evict_blum_merkle, reads_get, reads_set, reads_fields, reads_entry, reads_event};
 ghost use Rattle.reader.specs.Meaning.{out};
-ghost use Rattle.wire.specs.Meaning.{entry_of, event_of, EntryParts, EventParts};
+ghost use Rattle.wire.specs.Meaning.{entry_of, logged_of, EntryParts};
 
 use crate::{Entry, Event};
 use reader::{Reader, byte_len};
@@ -15,12 +15,8 @@ fn add_merkle<'a>(reader: &mut Reader<'a>) -> Option<Entry<'a>>
     ensures reads { reads_add_merkle reader.old.rest.now ≡ out (option_map entry_of result) reader.new.rest.now }
     ensures parts { IfSome result EntryParts }
 {
-    let Some(record) = reader.record() else {
-        return None;
-    };
-    let Some(above) = reader.sized() else {
-        return None;
-    };
+    let record = reader.record()?;
+    let above = reader.sized()?;
     Some(Entry::AddMerkle { record, above })
 }
 
@@ -31,16 +27,10 @@ fn add_blum<'a>(reader: &mut Reader<'a>) -> Option<Entry<'a>>
 {
     let all = reader.rest;
     let size = byte_len(all);
-    let Some(record) = reader.record() else {
-        return None;
-    };
-    let Some(timestamp) = reader.timestamp() else {
-        return None;
-    };
+    let record = reader.record()?;
+    let timestamp = reader.timestamp()?;
     let used = size - reader.rest.len();
-    let Some(verifier) = reader.number() else {
-        return None;
-    };
+    let verifier = reader.number()?;
     Some(Entry::AddBlum {
         record,
         timestamp,
@@ -53,12 +43,8 @@ fn evict_merkle<'a>(reader: &mut Reader<'a>) -> Option<Entry<'a>>
     ensures reads { reads_evict_merkle reader.old.rest.now ≡ out (option_map entry_of result) reader.new.rest.now }
     ensures parts { IfSome result EntryParts }
 {
-    let Some(path) = reader.sized() else {
-        return None;
-    };
-    let Some(above) = reader.sized() else {
-        return None;
-    };
+    let path = reader.sized()?;
+    let above = reader.sized()?;
     Some(Entry::EvictMerkle { path, above })
 }
 
@@ -66,12 +52,8 @@ fn evict_blum<'a>(reader: &mut Reader<'a>) -> Option<Entry<'a>>
     ensures reads { reads_evict_blum reader.old.rest.now ≡ out (option_map entry_of result) reader.new.rest.now }
     ensures parts { IfSome result EntryParts }
 {
-    let Some(path) = reader.sized() else {
-        return None;
-    };
-    let Some(timestamp) = reader.timestamp() else {
-        return None;
-    };
+    let path = reader.sized()?;
+    let timestamp = reader.timestamp()?;
     Some(Entry::EvictBlum { path, timestamp })
 }
 
@@ -79,15 +61,9 @@ fn evict_blum_merkle<'a>(reader: &mut Reader<'a>) -> Option<Entry<'a>>
     ensures reads { reads_evict_blum_merkle reader.old.rest.now ≡ out (option_map entry_of result) reader.new.rest.now }
     ensures parts { IfSome result EntryParts }
 {
-    let Some(path) = reader.sized() else {
-        return None;
-    };
-    let Some(above) = reader.sized() else {
-        return None;
-    };
-    let Some(timestamp) = reader.timestamp() else {
-        return None;
-    };
+    let path = reader.sized()?;
+    let above = reader.sized()?;
+    let timestamp = reader.timestamp()?;
     Some(Entry::EvictBlumMerkle {
         path,
         above,
@@ -99,12 +75,8 @@ fn get<'a>(reader: &mut Reader<'a>) -> Option<Entry<'a>>
     ensures reads { reads_get reader.old.rest.now ≡ out (option_map entry_of result) reader.new.rest.now }
     ensures parts { IfSome result EntryParts }
 {
-    let Some(key) = reader.sized() else {
-        return None;
-    };
-    let Some(value) = reader.value() else {
-        return None;
-    };
+    let key = reader.sized()?;
+    let value = reader.value()?;
     Some(Entry::Get { key, value })
 }
 
@@ -112,12 +84,8 @@ fn set<'a>(reader: &mut Reader<'a>) -> Option<Entry<'a>>
     ensures reads { reads_set reader.old.rest.now ≡ out (option_map entry_of result) reader.new.rest.now }
     ensures parts { IfSome result EntryParts }
 {
-    let Some(key) = reader.sized() else {
-        return None;
-    };
-    let Some(value) = reader.sized() else {
-        return None;
-    };
+    let key = reader.sized()?;
+    let value = reader.sized()?;
     Some(Entry::Set { key, value })
 }
 
@@ -126,6 +94,7 @@ fn fields<'a>(reader: &mut Reader<'a>, code: u8) -> Option<Entry<'a>>
     ensures reads { reads_fields code reader.old.rest.now ≡ out (option_map entry_of result) reader.new.rest.now }
     ensures parts { IfSome result EntryParts }
 {
+    // The format's table of codes: an enum in between would list the same names twice.
     match code {
         0 => add_merkle(reader),
         1 => add_blum(reader),
@@ -143,22 +112,16 @@ fn entry<'a>(reader: &mut Reader<'a>) -> Option<Entry<'a>>
     ensures reads { reads_entry reader.old.rest.now ≡ out (option_map entry_of result) reader.new.rest.now }
     ensures parts { IfSome result EntryParts }
 {
-    let Some(code) = reader.tag(CODES) else {
-        return None;
-    };
+    let code = reader.tag(CODES)?;
     fields(reader, code)
 }
 
 // A verifier and its next entry.
 pub fn event<'a>(reader: &mut Reader<'a>) -> Option<Event<'a>>
-    ensures reads { reads_event reader.old.rest.now ≡ out (option_map event_of result) reader.new.rest.now }
-    ensures parts { IfSome result EventParts }
+    ensures reads { reads_event reader.old.rest.now ≡ out (option_map logged_of result) reader.new.rest.now }
+    ensures parts { IfSome result (λ e. EntryParts e.entry) }
 {
-    let Some(verifier) = reader.number() else {
-        return None;
-    };
-    let Some(entry) = entry(reader) else {
-        return None;
-    };
-    Some(Event::Logged(verifier, entry))
+    let verifier = reader.number()?;
+    let entry = entry(reader)?;
+    Some(Event { verifier, entry })
 }

@@ -11,25 +11,29 @@ mod answers;
 mod entries;
 mod parts;
 
-pub use parts::{Answer, Entry, Event};
+pub use parts::{Answer, Entry, Event, Malformed, Refusal};
 use reader::Reader;
 pub use reader::{Contents, Pointer, Record, Timestamp};
 
 // The event that the bytes are, or where they cease to be one.
-pub fn read(bytes: &[u8]) -> Event<'_>
+pub fn read(bytes: &[u8]) -> Result<Event<'_>, Malformed>
     ensures value { event_of result ≡ reading bytes.now }
     ensures parts { EventParts result }
     ensures fits { readable (event_of result) ≡ true }
 {
     let mut reader = Reader { rest: bytes };
     let Some(event) = entries::event(&mut reader) else {
-        return Event::Malformed(bytes.len() - reader.rest.len());
+        return Err(Malformed {
+            at: bytes.len() - reader.rest.len(),
+        });
     };
     let left = reader.rest.len();
     if left > 0 {
-        return Event::Malformed(bytes.len() - left);
+        return Err(Malformed {
+            at: bytes.len() - left,
+        });
     }
-    event
+    Ok(event)
 }
 
 // The answer that the bytes are.
@@ -37,10 +41,8 @@ pub fn read_answer(bytes: &[u8]) -> Option<Answer>
     ensures { read_answer bytes.now ≡ option_map answer_of result }
 {
     let mut reader = Reader { rest: bytes };
-    let Some(answer) = answers::answer(&mut reader) else {
-        return None;
-    };
-    if reader.rest.len() > 0 {
+    let answer = answers::answer(&mut reader)?;
+    if !reader.rest.is_empty() {
         return None;
     }
     Some(answer)

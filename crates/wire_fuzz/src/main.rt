@@ -14,7 +14,7 @@ const SEED: u64 = 0x9e37_79b9_7f4a_7c15;
 
 fn main(rt: HostRuntime) -> io::Result<()> {
     let mut random = Random::new(SEED);
-    let mut counts = Counts::new();
+    let mut counts = Counts::default();
     for _ in 0..ROUNDS {
         rounds::written_event(&mut random, &mut counts);
         rounds::changed_event(&mut random, &mut counts);

@@ -30,11 +30,8 @@ impl Random {
 
     // A part of the pool, from its front.
     fn text<'a>(&mut self, pool: &'a [u8]) -> &'a [u8] {
-        let n = self.byte() as usize % 20;
-        if n > pool.len() {
-            return pool;
-        }
-        &pool[0..n]
+        let n = usize::from(self.byte() % 20);
+        &pool[..n.min(pool.len())]
     }
 
     fn value<'a>(&mut self, pool: &'a [u8]) -> Option<&'a [u8]> {

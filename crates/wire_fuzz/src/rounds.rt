@@ -1,6 +1,6 @@
 // One round of each property, and the counts of all.
 use crate::random::Random;
-use wire::{Event, read, read_answer};
+use wire::{Event, Malformed, read, read_answer};
 use wire_write::{write_answer, write_event};
 
 // Longer than any event that is made here.
@@ -10,7 +10,7 @@ const POOL: usize = 32;
 
 const ANSWER_ROOM: usize = 12;
 
-#[derive(Drop)]
+#[derive(Default, Drop)]
 pub struct Counts {
     pub events: u64,
     pub malformed: u64,
@@ -20,16 +20,6 @@ pub struct Counts {
 }
 
 impl Counts {
-    pub fn new() -> Self {
-        Counts {
-            events: 0,
-            malformed: 0,
-            answers: 0,
-            none: 0,
-            failed: 0,
-        }
-    }
-
     fn expect(&mut self, holds: bool) {
         if !holds {
             self.failed = self.failed.wrapping_add(1);
@@ -45,79 +35,70 @@ fn fill(random: &mut Random, to: &mut [u8]) {
 
 // The bytes that an event is read from are those that it is written as.
 fn same_again(bytes: &[u8]) -> bool {
-    let Event::Logged(verifier, entry) = read(bytes) else {
+    let Ok(Event { verifier, entry }) = read(bytes) else {
         return false;
     };
     let mut to = [0u8; ROOM];
     match write_event(&mut to, verifier, entry) {
-        Some(n) => n <= ROOM && &to[0..n] == bytes,
+        Some(n) => to.get(..n) == Some(bytes),
         None => false,
     }
 }
 
-// An event is written again as it was. What is malformed at n is so at n when it is cut there, unless that is an event with nothing after it.
+// An event is written again as it was. What is malformed at a place is so there when it is cut there, unless that is an event with nothing after it.
 fn judged(bytes: &[u8], counts: &mut Counts) {
-    match read(bytes) {
-        Event::Logged(_, _) => {
-            counts.events = counts.events.wrapping_add(1);
-            counts.expect(same_again(bytes));
-        }
-        Event::Malformed(n) => {
-            counts.malformed = counts.malformed.wrapping_add(1);
-            if n > bytes.len() {
-                counts.expect(false);
-                return;
-            }
-            let front = &bytes[0..n];
-            match read(front) {
-                Event::Logged(_, _) => counts.expect(n < bytes.len() && same_again(front)),
-                Event::Malformed(k) => counts.expect(k == n),
-            }
-        }
+    let Err(Malformed { at }) = read(bytes) else {
+        counts.events = counts.events.wrapping_add(1);
+        counts.expect(same_again(bytes));
+        return;
+    };
+    counts.malformed = counts.malformed.wrapping_add(1);
+    let Some(front) = bytes.get(..at) else {
+        counts.expect(false);
+        return;
+    };
+    match read(front) {
+        Ok(_) => counts.expect(at < bytes.len() && same_again(front)),
+        Err(cut) => counts.expect(cut.at == at),
     }
 }
 
-// A random event in `to`: how many bytes it has, or 0 if it does not fit, which is no event.
-fn random_event(random: &mut Random, to: &mut [u8]) -> usize {
+// A random event in `to`, if it fits: how many bytes it has.
+fn random_event(random: &mut Random, to: &mut [u8]) -> Option<usize> {
     let mut pool = [0u8; POOL];
     fill(random, &mut pool);
     let verifier = random.number();
     let entry = random.entry(&pool);
-    write_event(to, verifier, entry).unwrap_or(0)
+    write_event(to, verifier, entry)
 }
 
 pub fn written_event(random: &mut Random, counts: &mut Counts) {
     let mut to = [0u8; ROOM];
-    let n = random_event(random, &mut to);
-    if n > ROOM {
-        counts.expect(false);
-        return;
-    }
-    counts.expect(same_again(&to[0..n]));
-    judged(&to[0..n], counts);
-}
-
-fn put_at(to: &mut [u8], at: usize, byte: u8) {
-    if at < to.len() {
-        to[at] = byte;
+    match random_event(random, &mut to) {
+        Some(n) if n <= ROOM => {
+            counts.expect(same_again(&to[..n]));
+            judged(&to[..n], counts);
+        }
+        _ => counts.expect(false),
     }
 }
 
 // One byte is another; then it is cut short, or goes on.
 pub fn changed_event(random: &mut Random, counts: &mut Counts) {
     let mut to = [0u8; ROOM];
-    let n = random_event(random, &mut to);
-    let at = random.byte() as usize % 64;
+    let event = random_event(random, &mut to);
+    let at = usize::from(random.byte() % 64);
     let byte = random.byte() % 16;
-    let by = random.byte() as usize % 4;
-    if n > ROOM - 4 {
-        counts.expect(false);
-        return;
+    let by = usize::from(random.byte() % 4);
+    match event {
+        Some(n) if n <= ROOM - 4 => {
+            judged(&to[..n + by], counts);
+            judged(&to[..n.saturating_sub(by)], counts);
+            to[at] = byte;
+            judged(&to[..n], counts);
+        }
+        _ => counts.expect(false),
     }
-    judged(&to[0..n + by], counts);
-    judged(&to[0..n - n.min(by)], counts);
-    put_at(&mut to, at, byte);
-    judged(&to[0..n], counts);
 }
 
 // Small numbers, so that some are tags and lengths.
@@ -126,8 +107,8 @@ pub fn any_bytes(random: &mut Random, counts: &mut Counts) {
     for b in bytes.iter_mut() {
         *b = random.byte() % 4;
     }
-    let n = random.byte() as usize % 65;
-    judged(&bytes[0..n], counts);
+    let n = usize::from(random.byte() % 65);
+    judged(&bytes[..n], counts);
 }
 
 // An answer is read back and written again as it was; bytes are an answer only if it is written so.
@@ -135,15 +116,15 @@ pub fn any_answer(random: &mut Random, counts: &mut Counts) {
     let mut to = [0u8; ANSWER_ROOM];
     match write_answer(&mut to, random.answer()) {
         Some(n) if n <= ANSWER_ROOM => {
-            let is_answer = judged_answer(&to[0..n], counts);
+            let is_answer = judged_answer(&to[..n], counts);
             counts.expect(is_answer);
         }
         _ => counts.expect(false),
     }
     fill(random, &mut to);
-    put_at(&mut to, 0, random.byte() % 5);
-    let n = random.byte() as usize % (ANSWER_ROOM + 1);
-    let _ = judged_answer(&to[0..n], counts);
+    to[0] = random.byte() % 5;
+    let n = usize::from(random.byte()) % (ANSWER_ROOM + 1);
+    let _ = judged_answer(&to[..n], counts);
 }
 
 // Whether the bytes are an answer.
@@ -155,8 +136,8 @@ fn judged_answer(bytes: &[u8], counts: &mut Counts) -> bool {
     counts.answers = counts.answers.wrapping_add(1);
     let mut to = [0u8; ANSWER_ROOM];
     match write_answer(&mut to, answer) {
-        Some(n) if n <= ANSWER_ROOM => counts.expect(&to[0..n] == bytes),
-        _ => counts.expect(false),
+        Some(n) => counts.expect(to.get(..n) == Some(bytes)),
+        None => counts.expect(false),
     }
     true
 }

@@ -1,6 +1,5 @@
 // Each answer: its bytes; cut short; with a byte too many; with a kind that is none.
 use std::process::Abort;
-use std::test::Fail;
 use wire::{Answer, read_answer};
 use wire_write::write_answer;
 
@@ -12,14 +11,14 @@ fn both_ways(rt: &impl Abort, answer: Answer, bytes: &[u8]) {
     let mut to = [0u8; ROOM];
     assert_eq!(rt; write_answer(&mut to, answer), Some(n));
     assert!(rt; n < ROOM);
-    assert_eq!(rt; &to[0..n], bytes);
-    assert!(rt; read_answer(&to[0..n]).is_some());
-    assert!(rt; read_answer(&to[0..n + 1]).is_none());
+    assert_eq!(rt; &to[..n], bytes);
+    assert_eq!(rt; read_answer(&to[..n]), Some(answer));
+    assert_eq!(rt; read_answer(&to[..n + 1]), None);
     for k in 0..n {
-        assert!(rt; read_answer(&to[0..k]).is_none());
+        assert_eq!(rt; read_answer(&to[..k]), None);
         let mut short = [0u8; ROOM];
-        assert_eq!(rt; write_answer(&mut short[0..k], answer), None);
-        assert_eq!(rt; short[0], 0);
+        assert_eq!(rt; write_answer(&mut short[..k], answer), None);
+        assert_eq!(rt; short, [0u8; ROOM]);
     }
 }
 
@@ -36,16 +35,17 @@ fn each_answer(rt: HostRuntime) {
 }
 
 #[test]
-fn read_back(rt: HostRuntime) -> Result<(), Fail> {
-    let Some(Answer::Refused(4, 258)) = read_answer(&[0, 4, 2, 1, 0, 0, 0, 0, 0, 0]) else {
-        return Err(Fail::new("it is a refusal"));
-    };
-    let Some(Answer::Certified(7)) = read_answer(&[3, 7, 0, 0, 0, 0, 0, 0, 0]) else {
-        return Err(Fail::new("it is a certificate"));
-    };
-    assert!(rt; matches!(read_answer(&[1]), Some(Answer::Wrong)));
-    assert!(rt; matches!(read_answer(&[2]), Some(Answer::Right)));
-    assert!(rt; read_answer(&[4]).is_none());
-    assert!(rt; read_answer(&[]).is_none());
-    Ok(())
+fn read_back(rt: HostRuntime) {
+    assert_eq!(rt;
+        read_answer(&[0, 4, 2, 1, 0, 0, 0, 0, 0, 0]),
+        Some(Answer::Refused(4, 258))
+    );
+    assert_eq!(rt;
+        read_answer(&[3, 7, 0, 0, 0, 0, 0, 0, 0]),
+        Some(Answer::Certified(7))
+    );
+    assert_eq!(rt; read_answer(&[1]), Some(Answer::Wrong));
+    assert_eq!(rt; read_answer(&[2]), Some(Answer::Right));
+    assert_eq!(rt; read_answer(&[4]), None);
+    assert_eq!(rt; read_answer(&[]), None);
 }

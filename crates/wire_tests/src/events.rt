@@ -11,14 +11,11 @@ const UNTOUCHED: u8 = 0xa5;
 
 // Where the bytes are malformed.
 fn place(bytes: &[u8]) -> Option<usize> {
-    match read(bytes) {
-        Event::Logged(_, _) => None,
-        Event::Malformed(n) => Some(n),
-    }
+    read(bytes).err().map(|malformed| malformed.at)
 }
 
 fn written_again(rt: &impl Abort, bytes: &[u8]) -> Result<(), Fail> {
-    let Event::Logged(verifier, entry) = read(bytes) else {
+    let Ok(Event { verifier, entry }) = read(bytes) else {
         return Err(Fail::new("it is an event"));
     };
     let mut to = [UNTOUCHED; ROOM];
@@ -26,38 +23,28 @@ fn written_again(rt: &impl Abort, bytes: &[u8]) -> Result<(), Fail> {
         return Err(Fail::new("there is room"));
     };
     assert!(rt; n <= ROOM);
-    assert_eq!(rt; &to[0..n], bytes);
-    for i in n..ROOM {
-        assert_eq!(rt; to[i], UNTOUCHED);
-    }
+    assert_eq!(rt; &to[..n], bytes);
+    assert!(rt; to[n..].iter().all(|b| *b == UNTOUCHED));
     assert!(rt; n > 0);
     let mut short = [UNTOUCHED; ROOM];
-    assert_eq!(rt; write_event(&mut short[0..n - 1], verifier, entry), None);
-    for b in short {
-        assert_eq!(rt; b, UNTOUCHED);
-    }
+    assert_eq!(rt; write_event(&mut short[..n - 1], verifier, entry), None);
+    assert_eq!(rt; short, [UNTOUCHED; ROOM]);
     Ok(())
 }
 
 // A field that is cut short is malformed at the end.
 fn cut_short(rt: &impl Abort, bytes: &[u8]) {
     for n in 0..bytes.len() {
-        assert_eq!(rt; place(&bytes[0..n]), Some(n));
+        assert_eq!(rt; place(&bytes[..n]), Some(n));
     }
-}
-
-// As many bytes as fit, at the front of `to`.
-fn copy_to(to: &mut [u8], bytes: &[u8]) {
-    let n = bytes.len().min(to.len());
-    to[0..n].copy_from_slice(&bytes[0..n]);
 }
 
 fn one_too_many(rt: &impl Abort, bytes: &[u8]) {
     let n = bytes.len();
     let mut longer = [0u8; ROOM];
     assert!(rt; n < ROOM);
-    copy_to(&mut longer, bytes);
-    assert_eq!(rt; place(&longer[0..n + 1]), Some(n));
+    longer[..n].copy_from_slice(bytes);
+    assert_eq!(rt; place(&longer[..n + 1]), Some(n));
 }
 
 fn sample(rt: &impl Abort, bytes: &[u8]) -> Result<(), Fail> {
@@ -70,7 +57,13 @@ fn sample(rt: &impl Abort, bytes: &[u8]) -> Result<(), Fail> {
 #[test]
 fn add_merkle(rt: HostRuntime) -> Result<(), Fail> {
     sample(&rt, &samples::ADD_MERKLE)?;
-    let Event::Logged(0, Entry::AddMerkle { record, above }) = read(&samples::ADD_MERKLE) else {
+    let Ok(
+        Event {
+            verifier: 0,
+            entry: Entry::AddMerkle { record, above },
+        },
+    ) = read(&samples::ADD_MERKLE)
+    else {
         return Err(Fail::new("it is an AddMerkle of verifier 0"));
     };
     assert_eq!(rt; record.name, [0u8, 1].as_slice());
@@ -98,13 +91,15 @@ fn add_merkle(rt: HostRuntime) -> Result<(), Fail> {
 #[test]
 fn add_blum(rt: HostRuntime) -> Result<(), Fail> {
     sample(&rt, &samples::ADD_BLUM)?;
-    let Event::Logged(
-        2,
-        Entry::AddBlum {
-            record,
-            timestamp,
-            verifier,
-            element,
+    let Ok(
+        Event {
+            verifier: 2,
+            entry: Entry::AddBlum {
+                record,
+                timestamp,
+                verifier,
+                element,
+            },
         },
     ) = read(&samples::ADD_BLUM)
     else {
@@ -126,7 +121,13 @@ fn add_blum(rt: HostRuntime) -> Result<(), Fail> {
 #[test]
 fn evict_merkle(rt: HostRuntime) -> Result<(), Fail> {
     sample(&rt, &samples::EVICT_MERKLE)?;
-    let Event::Logged(0, Entry::EvictMerkle { path, above }) = read(&samples::EVICT_MERKLE) else {
+    let Ok(
+        Event {
+            verifier: 0,
+            entry: Entry::EvictMerkle { path, above },
+        },
+    ) = read(&samples::EVICT_MERKLE)
+    else {
         return Err(Fail::new("it is an EvictMerkle of verifier 0"));
     };
     assert_eq!(rt; path, [0u8, 1].as_slice());
@@ -137,7 +138,13 @@ fn evict_merkle(rt: HostRuntime) -> Result<(), Fail> {
 #[test]
 fn evict_blum(rt: HostRuntime) -> Result<(), Fail> {
     sample(&rt, &samples::EVICT_BLUM)?;
-    let Event::Logged(1, Entry::EvictBlum { path, timestamp }) = read(&samples::EVICT_BLUM) else {
+    let Ok(
+        Event {
+            verifier: 1,
+            entry: Entry::EvictBlum { path, timestamp },
+        },
+    ) = read(&samples::EVICT_BLUM)
+    else {
         return Err(Fail::new("it is an EvictBlum of verifier 1"));
     };
     assert_eq!(rt; path, [1u8, 0, 1].as_slice());
@@ -149,12 +156,14 @@ fn evict_blum(rt: HostRuntime) -> Result<(), Fail> {
 #[test]
 fn evict_blum_merkle(rt: HostRuntime) -> Result<(), Fail> {
     sample(&rt, &samples::EVICT_BLUM_MERKLE)?;
-    let Event::Logged(
-        1,
-        Entry::EvictBlumMerkle {
-            path,
-            above,
-            timestamp,
+    let Ok(
+        Event {
+            verifier: 1,
+            entry: Entry::EvictBlumMerkle {
+                path,
+                above,
+                timestamp,
+            },
         },
     ) = read(&samples::EVICT_BLUM_MERKLE)
     else {
@@ -174,13 +183,19 @@ fn epochs(rt: HostRuntime) -> Result<(), Fail> {
     assert!(rt;
         matches!(
             read(&samples::NEXT_EPOCH),
-            Event::Logged(2, Entry::NextEpoch)
+            Ok(Event {
+                verifier: 2,
+                entry: Entry::NextEpoch
+            })
         )
     );
     assert!(rt;
         matches!(
             read(&samples::VERIFY_EPOCH),
-            Event::Logged(258, Entry::VerifyEpoch)
+            Ok(Event {
+                verifier: 258,
+                entry: Entry::VerifyEpoch
+            })
         )
     );
     Ok(())
@@ -191,11 +206,13 @@ fn get_and_set(rt: HostRuntime) -> Result<(), Fail> {
     sample(&rt, &samples::GET)?;
     sample(&rt, &samples::GET_NONE)?;
     sample(&rt, &samples::SET)?;
-    let Event::Logged(
-        1,
-        Entry::Get {
-            key,
-            value: Some(value),
+    let Ok(
+        Event {
+            verifier: 1,
+            entry: Entry::Get {
+                key,
+                value: Some(value),
+            },
         },
     ) = read(&samples::GET)
     else {
@@ -203,22 +220,28 @@ fn get_and_set(rt: HostRuntime) -> Result<(), Fail> {
     };
     assert_eq!(rt; key, b"alice".as_slice());
     assert_eq!(rt; value, b"100".as_slice());
-    let Event::Logged(1, Entry::Get { key, value: None }) = read(&samples::GET_NONE) else {
+    let Ok(
+        Event {
+            verifier: 1,
+            entry: Entry::Get { key, value: None },
+        },
+    ) = read(&samples::GET_NONE)
+    else {
         return Err(Fail::new("it is a Get of no value"));
     };
     assert_eq!(rt; key, b"bob".as_slice());
-    let Event::Logged(1, Entry::Set { key, value }) = read(&samples::SET) else {
+    let Ok(
+        Event {
+            verifier: 1,
+            entry: Entry::Set { key, value },
+        },
+    ) = read(&samples::SET)
+    else {
         return Err(Fail::new("it is a Set"));
     };
     assert_eq!(rt; key, b"alice".as_slice());
     assert_eq!(rt; value, b"90".as_slice());
     Ok(())
-}
-
-fn put_at(to: &mut [u8], at: usize, byte: u8) {
-    if at < to.len() {
-        to[at] = byte;
-    }
 }
 
 // With another byte at `at`, it is malformed there.
@@ -227,9 +250,9 @@ fn malformed_at(rt: &impl Abort, bytes: &[u8], at: usize, byte: u8) {
     let mut other = [0u8; ROOM];
     assert!(rt; n <= ROOM);
     assert!(rt; at < n);
-    copy_to(&mut other, bytes);
-    put_at(&mut other, at, byte);
-    assert_eq!(rt; place(&other[0..n]), Some(at));
+    other[..n].copy_from_slice(bytes);
+    other[at] = byte;
+    assert_eq!(rt; place(&other[..n]), Some(at));
 }
 
 #[test]

@@ -1,7 +1,7 @@
 // The longest texts, and one byte more.
 use std::alloc::{AllocError, Global};
 use std::test::Fail;
-use wire::{Contents, Entry, Event, Pointer, Record, read};
+use wire::{Contents, Entry, Event, Malformed, Pointer, Record, read};
 use wire_write::{event_len, write_event};
 
 const LONGEST_TEXT: usize = 65535;
@@ -25,7 +25,13 @@ fn longest_set(rt: HostRuntime) -> Result<(), Fail> {
     };
     assert_eq!(rt; n, 9 + 2 * (2 + LONGEST_TEXT));
     assert!(rt; n <= to.len());
-    let Event::Logged(1, Entry::Set { key, value }) = read(&to[0..n]) else {
+    let Ok(
+        Event {
+            verifier: 1,
+            entry: Entry::Set { key, value },
+        },
+    ) = read(&to[..n])
+    else {
         return Err(Fail::new("it is a Set"));
     };
     assert_eq!(rt; key.len(), LONGEST_TEXT);
@@ -60,10 +66,13 @@ fn longest_event(rt: HostRuntime) -> Result<(), Fail> {
     assert!(rt;
         matches!(
             read(&to[0..LONGEST_EVENT]),
-            Event::Logged(u64::MAX, Entry::AddMerkle { .. })
+            Ok(Event {
+                verifier: u64::MAX,
+                entry: Entry::AddMerkle { .. }
+            })
         )
     );
-    assert!(rt; matches!(read(&to), Event::Malformed(LONGEST_EVENT)));
+    assert_eq!(rt; read(&to).err(), Some(Malformed { at: LONGEST_EVENT }));
     Ok(())
 }
 
@@ -76,9 +85,7 @@ fn too_long(rt: HostRuntime) -> Result<(), Fail> {
     };
     let mut to = text(rt.alloc(), LONGEST_EVENT)?;
     assert_eq!(rt; write_event(&mut to, 0, entry), None);
-    for b in to.iter() {
-        assert_eq!(rt; *b, 1);
-    }
+    assert!(rt; to.iter().all(|b| *b == 1));
     assert_eq!(rt; event_len(0, entry), None);
     Ok(())
 }

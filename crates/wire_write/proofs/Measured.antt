@@ -1,6 +1,7 @@
 -- The lengths that the code computes are those of the bytes of readable values.
 use Rattle.std.proofs.Common.{◌≡◌, ℕ, ◌+◌, ◌<◌, ◌≤◌, Bool, true, false, cond, ◌&&◌, ltb, List, [], ◌∷◌, ◌++◌, length, get_or, Some, None, Option, sym, refl, ap, ◌∙◌, arith}
 use Rattle.std.proofs.lemmas.List.{append_assoc, length-append}
+use Rattle.std.proofs.Math.Bool.{and-false, and_assoc}
 use Rattle.std.proofs.lemmas.Bool.{le-leb, lt-leb, ltb-true}
 use Rattle.model.specs.Records.{Bytes, Pointer, absent, present, Value, Record, data_record, node, le_bytes, sized_bytes, value_bytes, pointer_bytes, merkle_bytes, record_bytes}
 use Rattle.model.specs.Verifier.{Timestamp, Entry, add_merkle, add_blum, evict_merkle, evict_blum, evict_blum_merkle, next_epoch, verify_epoch, get, set}
@@ -31,13 +32,9 @@ hash_fits (a ∷ b ∷ c ∷ []) e h i j k = absurd (omega arith)
 hash_fits (a ∷ b ∷ c ∷ d ∷ []) e h i j k = omega arith
 hash_fits (a ∷ b ∷ c ∷ d ∷ f ∷ ws) e h i j k = absurd (omega arith)
 
-and_false : (b : Bool) → (b && false) ≡ false
-and_false true = refl
-and_false false = refl
-
 pub sized_too_long : (t : Bytes) → 65535 < length t → None ≡ sized_len t
 unfolding sized_len
-sized_too_long t h = rw (lt-leb (length t) 65535 h, and_false (all_below 256 t))
+sized_too_long t h = rw (lt-leb (length t) 65535 h, and-false (all_below 256 t))
 
 pub sized_fits : (t : Bytes) → all_below 256 t ≡ true → length t ≤ 65535 → Some (2 + length t) ≡ sized_len t
 unfolding sized_len
@@ -61,10 +58,6 @@ three true true true m n o f = refl
 three true true false m n o f = refl
 three true false d m n o f = refl
 three false c d m n o f = refl
-
-and_assoc : (b c d : Bool) → ((b && c) && d) ≡ (b && (c && d))
-and_assoc true c d = refl
-and_assoc false c d = refl
 
 sized_is : (t : Bytes) → sized_len t ≡ measured (readable_bytes t) (length (sized_bytes t))
 unfolding sized_len

@@ -5,7 +5,7 @@ ghost use Rattle.model.specs.Wire.{answer_bytes, readable_answer};
 ghost use Rattle.wire.specs.Meaning.{answer_of};
 ghost use Rattle.wire_write.specs.Written.{Writes};
 
-use crate::fields::{put_byte, put_number};
+use crate::writer::Writer;
 use wire::Answer;
 
 fn write_refused(to: &mut [u8], refusal: u8, place: u64) -> Option<usize>
@@ -14,9 +14,11 @@ fn write_refused(to: &mut [u8], refusal: u8, place: u64) -> Option<usize>
     if to.len() < 10 {
         return None;
     }
-    let at = put_byte(to, 0, 0);
-    let at = put_byte(to, at, refusal);
-    Some(put_number(to, at, place))
+    let mut w = Writer::new(to);
+    w.byte(0);
+    w.byte(refusal);
+    w.number(place);
+    Some(w.at)
 }
 
 fn write_certified(to: &mut [u8], epochs: u64) -> Option<usize>
@@ -25,8 +27,10 @@ fn write_certified(to: &mut [u8], epochs: u64) -> Option<usize>
     if to.len() < 9 {
         return None;
     }
-    let at = put_byte(to, 0, 3);
-    Some(put_number(to, at, epochs))
+    let mut w = Writer::new(to);
+    w.byte(3);
+    w.number(epochs);
+    Some(w.at)
 }
 
 // An answer that is only its kind.
@@ -36,7 +40,9 @@ fn write_kind(to: &mut [u8], kind: u8) -> Option<usize>
     if to.is_empty() {
         return None;
     }
-    Some(put_byte(to, 0, kind))
+    let mut w = Writer::new(to);
+    w.byte(kind);
+    Some(w.at)
 }
 
 // The answer at the front of `to`, and how many bytes it has.

@@ -1,24 +1,26 @@
 // Events written field by field, once it is known that there is room.
-ghost use Rattle.std.specs.Prelude.{◌≡◌, ◌+◌, ◌≤◌, length};
+ghost use Rattle.std.specs.Prelude.{◌≡◌, ◌≤◌};
 ghost use Rattle.model.specs.Monitor.{logged};
 ghost use Rattle.model.specs.Readable.{readable};
 ghost use Rattle.model.specs.Wire.{event_bytes};
 ghost use Rattle.wire.specs.Meaning.{entry_of};
-ghost use Rattle.wire_write.specs.Written.{page, with_entry, entry_room, Writes};
+ghost use Rattle.wire_write.specs.Page.{page_of, left};
+ghost use Rattle.wire_write.specs.Written.{with_entry, entry_room, Writes};
 
-use crate::fields::{put_byte, put_number, put_record, put_sized, put_timestamp, put_value};
 use crate::lengths::event_len;
+use crate::writer::Writer;
 use wire::Entry;
 
-fn put_entry(to: &mut [u8], at: usize, entry: Entry<'_>) -> usize
-    requires { at + entry_room (entry_of entry) ≤ length to.old }
-    ensures { page to.new result ≡ with_entry (page to.old at) (entry_of entry.entry) }
+fn put_entry(w: &mut Writer<'_>, entry: Entry<'_>)
+    requires { entry_room (entry_of entry) ≤ left w.old }
+    ensures same { w.new.to.ghost_name ≡ w.old.to.ghost_name }
+    ensures written { page_of w.new ≡ with_entry (page_of w.old) (entry_of entry.entry) }
 {
+    w.byte(entry.code());
     match entry {
         Entry::AddMerkle { record, above } => {
-            let at = put_byte(to, at, 0);
-            let at = put_record(to, at, record);
-            put_sized(to, at, above)
+            w.record(record);
+            w.sized(above);
         }
         Entry::AddBlum {
             record,
@@ -26,42 +28,35 @@ fn put_entry(to: &mut [u8], at: usize, entry: Entry<'_>) -> usize
             verifier,
             ..
         } => {
-            let at = put_byte(to, at, 1);
-            let at = put_record(to, at, record);
-            let at = put_timestamp(to, at, timestamp);
-            put_number(to, at, verifier)
+            w.record(record);
+            w.timestamp(timestamp);
+            w.number(verifier);
         }
         Entry::EvictMerkle { path, above } => {
-            let at = put_byte(to, at, 2);
-            let at = put_sized(to, at, path);
-            put_sized(to, at, above)
+            w.sized(path);
+            w.sized(above);
         }
         Entry::EvictBlum { path, timestamp } => {
-            let at = put_byte(to, at, 3);
-            let at = put_sized(to, at, path);
-            put_timestamp(to, at, timestamp)
+            w.sized(path);
+            w.timestamp(timestamp);
         }
         Entry::EvictBlumMerkle {
             path,
             above,
             timestamp,
         } => {
-            let at = put_byte(to, at, 4);
-            let at = put_sized(to, at, path);
-            let at = put_sized(to, at, above);
-            put_timestamp(to, at, timestamp)
+            w.sized(path);
+            w.sized(above);
+            w.timestamp(timestamp);
         }
-        Entry::NextEpoch => put_byte(to, at, 5),
-        Entry::VerifyEpoch => put_byte(to, at, 6),
+        Entry::NextEpoch | Entry::VerifyEpoch => {}
         Entry::Get { key, value } => {
-            let at = put_byte(to, at, 7);
-            let at = put_sized(to, at, key);
-            put_value(to, at, value)
+            w.sized(key);
+            w.value(value);
         }
         Entry::Set { key, value } => {
-            let at = put_byte(to, at, 8);
-            let at = put_sized(to, at, key);
-            put_sized(to, at, value)
+            w.sized(key);
+            w.sized(value);
         }
     }
 }
@@ -70,12 +65,12 @@ fn put_entry(to: &mut [u8], at: usize, entry: Entry<'_>) -> usize
 pub fn write_event(to: &mut [u8], verifier: u64, entry: Entry<'_>) -> Option<usize>
     ensures { Writes (readable (logged verifier (entry_of entry.entry))) (event_bytes verifier (entry_of entry.entry)) to.old to.new result }
 {
-    let Some(len) = event_len(verifier, entry) else {
-        return None;
-    };
+    let len = event_len(verifier, entry)?;
     if to.len() < len {
         return None;
     }
-    let at = put_number(to, 0, verifier);
-    Some(put_entry(to, at, entry))
+    let mut w = Writer::new(to);
+    w.number(verifier);
+    put_entry(&mut w, entry);
+    Some(w.at)
 }

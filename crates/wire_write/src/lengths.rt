@@ -44,12 +44,8 @@ fn two_sized_len(first: &[u8], second: &[u8]) -> Option<usize>
     ensures value { result ≡ two_sized_len first.now second.now }
     ensures most { IfSome result (λ n. n ≤ 131074) }
 {
-    let Some(m) = sized_len(first) else {
-        return None;
-    };
-    let Some(n) = sized_len(second) else {
-        return None;
-    };
+    let m = sized_len(first)?;
+    let n = sized_len(second)?;
     Some(m + n)
 }
 
@@ -60,9 +56,7 @@ fn value_len(value: Option<&[u8]>) -> Option<usize>
     let Some(text) = value else {
         return Some(1);
     };
-    let Some(len) = sized_len(text) else {
-        return None;
-    };
+    let len = sized_len(text)?;
     Some(1 + len)
 }
 
@@ -73,9 +67,7 @@ fn pointer_len(pointer: Pointer<'_>) -> Option<usize>
     let Pointer::Present { path, hash, .. } = pointer else {
         return Some(1);
     };
-    let Some(len) = sized_len(path) else {
-        return None;
-    };
+    let len = sized_len(path)?;
     Some(2 + len + hash_len(hash))
 }
 
@@ -83,23 +75,15 @@ fn record_len(record: Record<'_>) -> Option<usize>
     ensures value { result ≡ record_len (record_of «record».entry) }
     ensures most { IfSome result (λ n. n ≤ 196681) }
 {
-    let Some(name) = sized_len(record.name) else {
-        return None;
-    };
+    let name = sized_len(record.name)?;
     match record.contents {
         Contents::Value(value) => {
-            let Some(len) = value_len(value) else {
-                return None;
-            };
+            let len = value_len(value)?;
             Some(2 + name + len)
         }
         Contents::Children { left, right } => {
-            let Some(first) = pointer_len(left) else {
-                return None;
-            };
-            let Some(second) = pointer_len(right) else {
-                return None;
-            };
+            let first = pointer_len(left)?;
+            let second = pointer_len(right)?;
             Some(2 + name + first + second)
         }
     }
@@ -119,12 +103,8 @@ fn fields_len(entry: Entry<'_>) -> Option<usize>
 {
     match entry {
         Entry::AddMerkle { record, above } => {
-            let Some(first) = record_len(record) else {
-                return None;
-            };
-            let Some(second) = sized_len(above) else {
-                return None;
-            };
+            let first = record_len(record)?;
+            let second = sized_len(above)?;
             Some(first + second)
         }
         Entry::AddBlum {
@@ -133,16 +113,12 @@ fn fields_len(entry: Entry<'_>) -> Option<usize>
             verifier,
             ..
         } => {
-            let Some(first) = record_len(record) else {
-                return None;
-            };
+            let first = record_len(record)?;
             Some(first + timestamp_len(timestamp) + number_len(verifier))
         }
         Entry::EvictMerkle { path, above } => two_sized_len(path, above),
         Entry::EvictBlum { path, timestamp } => {
-            let Some(first) = sized_len(path) else {
-                return None;
-            };
+            let first = sized_len(path)?;
             Some(first + timestamp_len(timestamp))
         }
         Entry::EvictBlumMerkle {
@@ -150,19 +126,13 @@ fn fields_len(entry: Entry<'_>) -> Option<usize>
             above,
             timestamp,
         } => {
-            let Some(first) = two_sized_len(path, above) else {
-                return None;
-            };
+            let first = two_sized_len(path, above)?;
             Some(first + timestamp_len(timestamp))
         }
         Entry::NextEpoch | Entry::VerifyEpoch => Some(0),
         Entry::Get { key, value } => {
-            let Some(first) = sized_len(key) else {
-                return None;
-            };
-            let Some(second) = value_len(value) else {
-                return None;
-            };
+            let first = sized_len(key)?;
+            let second = value_len(value)?;
             Some(first + second)
         }
         Entry::Set { key, value } => two_sized_len(key, value),
@@ -174,8 +144,6 @@ pub fn event_len(verifier: u64, entry: Entry<'_>) -> Option<usize>
     ensures { result ≡ (if readable (logged verifier (entry_of entry.entry)) then Some (length (event_bytes verifier (entry_of entry.entry))) else None) }
 {
     let head = number_len(verifier) + 1;
-    let Some(fields) = fields_len(entry) else {
-        return None;
-    };
+    let fields = fields_len(entry)?;
     Some(head + fields)
 }

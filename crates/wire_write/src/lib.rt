@@ -3,8 +3,8 @@
 
 mod answers;
 mod events;
-mod fields;
 mod lengths;
+mod writer;
 
 pub use answers::write_answer;
 pub use events::write_event;

@@ -7,13 +7,13 @@ pub overflow_sub-merkle_bytes : goal.overflow_sub-merkle_bytes
 overflow_sub-merkle_bytes c =
     omega (
       arith,
-      (merkle_part c.sized.new.self.rest.now c.byte_len-size.ensures.small c.in-Some.kind c.in-Some-sized.name.now c.in-Some-just.field-0 c.just.new.self.rest.now (contents_of c.in-Some-sized.name.now c.in-Some-contents.contents)
-          c.contents.new.self.rest.now (tag_below 2 c.in-Some.kind c.args.self.now.rest.now c.tag.new.self.rest.now c.in-Some.ensures) c.in-Some-just.ensures c.in-Some-contents.ensures).0,
+      (merkle_part c.sized.new.self.rest.now c.byte_len-size.ensures.small c.in_ok-kind.kind c.in_ok-name.name.now c.in_ok-just.field-0 c.just.new.self.rest.now (contents_of c.in_ok-name.name.now c.in_ok-contents.contents)
+          c.contents.new.self.rest.now (tag_below 2 c.in_ok-kind.kind c.args.self.now.rest.now c.tag.new.self.rest.now c.in_ok-kind.ensures) c.in_ok-just.ensures c.in_ok-contents.ensures).0,
     )
 
 pub returns : goal.returns
 returns c =
-    let p = merkle_part c.sized.new.self.rest.now c.byte_len-size.ensures.small c.in-Some.kind c.in-Some-sized.name.now c.in-Some-just.field-0 c.just.new.self.rest.now (contents_of c.in-Some-sized.name.now c.in-Some-contents.contents)
-    c.contents.new.self.rest.now (tag_below 2 c.in-Some.kind c.args.self.now.rest.now c.tag.new.self.rest.now c.in-Some.ensures) c.in-Some-just.ensures c.in-Some-contents.ensures in
+    let p = merkle_part c.sized.new.self.rest.now c.byte_len-size.ensures.small c.in_ok-kind.kind c.in_ok-name.name.now c.in_ok-just.field-0 c.just.new.self.rest.now (contents_of c.in_ok-name.name.now c.in_ok-contents.contents)
+    c.contents.new.self.rest.now (tag_below 2 c.in_ok-kind.kind c.args.self.now.rest.now c.tag.new.self.rest.now c.in_ok-kind.ensures) c.in_ok-just.ensures c.in_ok-contents.ensures in
     let e : (c.byte_len-size.result - length c.contents.new.self.rest.now) - 0 ≡ length c.sized.new.self.rest.now - length c.contents.new.self.rest.now = omega arith in
     record { reads = search rules; merkle = ap (λ k. take k c.sized.new.self.rest.now) e ∙ p.1 }

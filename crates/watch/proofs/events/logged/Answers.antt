@@ -1,4 +1,4 @@
-use Rattle.std.proofs.Common.{◌≡◌, ℕ, ◌<◌, true, false, eqb, List, [], length, sym, refl, ap, ◌∙◌, subst, arith}
+use Rattle.std.proofs.Common.{◌≡◌, ℕ, ◌<◌, true, false, List, [], length, sym, refl, ap, ◌∙◌, subst, arith}
 use Rattle.std.proofs.lemmas.Bool.{le-ltb}
 use Rattle.model.specs.Verifier.{Verifier, verifier_step}
 use Rattle.model.specs.Monitor.{state, verifier_at, is_add}
@@ -19,7 +19,7 @@ returns-then-verifier-limits c = record {
   responds = λ l es g a k parts.
       let s = state l es in
       let e = a.verifiers in
-      refused_kept l c.args.mem.now s c.args.verifier _ 2 k (no_verifier l s c.args.verifier _ (le-ltb c.args.verifier l.verifiers (omega (arith, c.if-verifier-limits.true)))) (omega arith);
+      rw c.into.ensures (refused_kept l c.args.mem.now s c.args.verifier _ 2 k (no_verifier l s c.args.verifier _ (le-ltb c.args.verifier l.verifiers (omega (arith, c.if-verifier-limits.true)))) (omega arith));
 }
 
 pub slice_bounds-admitted-end : goal.slice_bounds-admitted-end
@@ -48,9 +48,9 @@ returns-in-Err c = record {
       let t = c.args.verifier in
       let lt = c.if-verifier-limits.false in
       let keeps = lent_keeps l c.args.limits m s t a k lt c.block_start-a.result c.block_start-a.ensures in
-      refused_kept l m s t _ c.in-Err.refusal k
+      rw c.into-in-Err.ensures (refused_kept l m s t _ _ k
       (c.in-Err.ensures.refusal l s t g (c.standing-standing.ensures.stands l s a k) (within t _ l.verifiers lt a.verifiers) (block_for _ _ _ _ c.standing-standing.ensures.places keeps))
-      (omega (arith, c.in-Err.ensures.listed));
+      (omega (arith, c.in-Err.ensures.listed)));
 }
 
 pub returns-in-Ok-step : goal.returns-in-Ok-step
@@ -74,8 +74,8 @@ returns-in-Ok-step c = record {
       let st = settled l es in
       let at = c.block_start-a.result in
       let is = c.block_start-a.ensures in
-      right_kept l x m s t a k lt at is e ok st c.step.new.block c.in-Ok-step.effect g' c.finish.new.mem c.finish.result (eqb c.code-verifies.result 6)
-      (ap (λ (n : ℕ). eqb n 6) c.code-verifies.ensures) (λ s₁ z laid ready. c.finish.ensures.finished l s₁ z a laid ready);
+      right_kept l x m s t a k lt at is e ok st c.step.new.block c.in-Ok-step.effect g' c.finish.new.mem c.finish.result c.verifies_epoch-verifies.result
+      c.verifies_epoch-verifies.ensures (λ s₁ z laid ready. c.finish.ensures.finished l s₁ z a laid ready);
 }
 
 pub returns-in-Err-step : goal.returns-in-Err-step

@@ -7,21 +7,21 @@ pub overflow_sub-used : goal.overflow_sub-used
 overflow_sub-used c =
     omega (
       arith,
-      timestamp_within c.args.reader.now.rest.now c.byte_len-size.ensures.small (record_of c.in-Some.record) c.record.new.self.rest.now (timestamp_of c.in-Some-timestamp.timestamp) c.timestamp.new.self.rest.now
-          c.in-Some.ensures.reads c.in-Some-timestamp.ensures,
+      timestamp_within c.args.reader.now.rest.now c.byte_len-size.ensures.small (record_of c.in_ok-record.record) c.record.new.self.rest.now (timestamp_of c.in_ok-timestamp.timestamp) c.timestamp.new.self.rest.now
+          c.in_ok-record.ensures.reads c.in_ok-timestamp.ensures,
     )
 
 pub slice_bounds-result-end : goal.slice_bounds-result-end
 slice_bounds-result-end c =
     omega (
       arith,
-      (element_part c.args.reader.now.rest.now c.byte_len-size.ensures.small (record_of c.in-Some.record) c.record.new.self.rest.now (timestamp_of c.in-Some-timestamp.timestamp) c.timestamp.new.self.rest.now
-          c.in-Some-number.verifier c.number.new.self.rest.now c.in-Some.ensures.reads c.in-Some-timestamp.ensures c.in-Some-number.ensures).0,
+      (element_part c.args.reader.now.rest.now c.byte_len-size.ensures.small (record_of c.in_ok-record.record) c.record.new.self.rest.now (timestamp_of c.in_ok-timestamp.timestamp) c.timestamp.new.self.rest.now
+          c.in_ok-verifier.verifier c.number.new.self.rest.now c.in_ok-record.ensures.reads c.in_ok-timestamp.ensures c.in_ok-verifier.ensures).0,
     )
 
 pub returns : goal.returns
 returns c =
-    let h = element_part c.args.reader.now.rest.now c.byte_len-size.ensures.small (record_of c.in-Some.record) c.record.new.self.rest.now (timestamp_of c.in-Some-timestamp.timestamp) c.timestamp.new.self.rest.now
-    c.in-Some-number.verifier c.number.new.self.rest.now c.in-Some.ensures.reads c.in-Some-timestamp.ensures c.in-Some-number.ensures in
+    let h = element_part c.args.reader.now.rest.now c.byte_len-size.ensures.small (record_of c.in_ok-record.record) c.record.new.self.rest.now (timestamp_of c.in_ok-timestamp.timestamp) c.timestamp.new.self.rest.now
+    c.in_ok-verifier.verifier c.number.new.self.rest.now c.in_ok-record.ensures.reads c.in_ok-timestamp.ensures c.in_ok-verifier.ensures in
     let e : ((c.byte_len-size.result - length c.timestamp.new.self.rest.now) + 1) - 0 ≡ length c.args.reader.now.rest.now - length c.timestamp.new.self.rest.now + 1 = omega arith in
-    record { reads = search rules; parts = (c.in-Some.ensures.merkle, λ small. ap (λ k. take k c.args.reader.now.rest.now) e ∙ h.1 small) }
+    record { reads = search rules; parts = (c.in_ok-record.ensures.merkle, λ small. ap (λ k. take k c.args.reader.now.rest.now) e ∙ h.1 small) }

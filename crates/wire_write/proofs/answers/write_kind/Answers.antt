@@ -1,8 +1,11 @@
-use Rattle.std.proofs.Common.{[], ◌∷◌, refl}
+use Rattle.std.proofs.Common.{[], ◌∷◌, refl, ap, ◌∙◌, rules}
+use Rattle.wire_write.specs.Written.{with_byte}
 use Rattle.wire_write.proofs.Pages.{at_front}
 use Rattle.wire_write.proofs.answers.write_kind.Goals as goal
 
 pub returns : goal.returns
 returns c =
-    let f = at_front c.args.to.now c.put_byte.new.to (c.args.kind ∷ []) c.put_byte.result c.put_byte.ensures.written in
-    (refl, f.0, f.1)
+    let k = c.args.kind in
+    let w = c.byte.new.self in
+    let f = at_front c.args.to.now w.to.now (k ∷ []) w.at (c.byte.ensures.written ∙ ap (λ p. with_byte p k) c.new-w.ensures.written) in
+    (refl, f.0, search (rules, f.1))

@@ -1,4 +1,4 @@
-use Rattle.std.proofs.Common.{ltb, ◌∷◌, refl, ap, ◌∙◌, arith}
+use Rattle.std.proofs.Common.{ltb, ◌∷◌, refl, ap, ◌∙◌, arith, rules}
 use Rattle.std.proofs.lemmas.Bool.{lt-ltb, and_from}
 use Rattle.model.specs.Records.{le_bytes}
 use Rattle.model.specs.Readable.{fits_64}
@@ -14,7 +14,9 @@ pub returns : goal.returns
 returns c =
     let k = c.args.refusal in
     let n = c.args.place in
+    let w = c.number.new.self in
     let f =
-    at_front c.args.to.now c.put_number.new.to (0 ∷ (k ∷ le_bytes 8 n)) c.put_number.result
-    (c.put_number.ensures.written ∙ (ap (λ p. with_number p n) (c.put_byte-at-2.ensures.written ∙ ap (λ p. with_byte p k) c.put_byte-at.ensures.written) ∙ refused_put c.args.to.now k n)) in
-    (and_from (ltb k 256) (fits_64 n) (lt-ltb k 256 (omega arith)) (lt-ltb n 18446744073709551616 c.put_number.ensures.fits), f.0, f.1)
+    at_front c.args.to.now w.to.now (0 ∷ (k ∷ le_bytes 8 n)) w.at
+    (c.number.ensures.written
+    ∙ (ap (λ p. with_number p n) (c.byte-2.ensures.written ∙ ap (λ p. with_byte p k) (c.byte.ensures.written ∙ ap (λ p. with_byte p 0) c.new-w.ensures.written)) ∙ refused_put c.args.to.now k n)) in
+    (and_from (ltb k 256) (fits_64 n) (lt-ltb k 256 (omega arith)) (lt-ltb n 18446744073709551616 c.number.ensures.fits), f.0, search (rules, f.1))
