@@ -23,10 +23,7 @@ pub fn last_evicted(block: &[u64]) -> Path
     requires { 64 ≤ length block.now }
     ensures { (n : ℕ) (v : Verifier) → Keeps n block.now v → path_in result.len result.bits ≡ v.last_evicted }
 {
-    let Some(path) = path_from_words(block[2] as usize, &block[3..7]) else {
-        return Path::root();
-    };
-    path
+    path_from_words(block[2] as usize, &block[3..7]).unwrap_or(Path::root())
 }
 
 // How many epochs the verifier is done with.

@@ -1,6 +1,6 @@
 -- What an AddMerkle found, where it may be done.
-use Rattle.std.specs.Prelude.{◌≡◌, ℕ, ◌<◌, Bool, false, not, List, Some, None, Ok, Err, Option, Result}
-use Rattle.model.specs.Records.{Bytes, Path, Record, Pointer, is_data, is_initial, path_of, side, merkle_bytes, merkle_hash}
+use Rattle.std.specs.Prelude.{◌≡◌, ℕ, ◌<◌, false, not, Some, None, Ok, Err, Option, Result}
+use Rattle.model.specs.Records.{Path, Record, Pointer, is_data, is_initial, path_of, side, merkle_bytes, merkle_hash}
 use Rattle.model.specs.Verifier.{Verifier, fails, add_merkle, add_merkle_at, verifier_step}
 use Rattle.path.specs.Packs.{path_in}
 use Rattle.path.specs.declared.packed.Path as packed

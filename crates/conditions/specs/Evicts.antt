@@ -1,5 +1,5 @@
 -- What an EvictMerkle found, where it may be done.
-use Rattle.std.specs.Prelude.{◌≡◌, ℕ, ◌<◌, false, List, [], ◌∷◌, Ok, Err, Result}
+use Rattle.std.specs.Prelude.{◌≡◌, ℕ, ◌<◌, false, [], ◌∷◌, Ok, Err, Result}
 use Rattle.model.specs.Records.{Path, present, is_data, children_of, node, with_child, merkle_hash}
 use Rattle.model.specs.Verifier.{Verifier, fails, goes, verifier_step, evict_merkle, with_store, without, updated}
 use Rattle.path.specs.declared.packed.Path as packed

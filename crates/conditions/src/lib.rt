@@ -1,4 +1,4 @@
-// Whether entries are right, asked of the store before anything is written.
+// Whether entries are right, asked of the store before anything is written: each check hands on its value, or returns what fails.
 #![tactic(auto)]
 
 ghost use Rattle.std.specs.Prelude.{◌≡◌, ℕ, ◌*◌, ◌<◌, ◌≤◌, Bool, true, false, not, length, ◌==◌};
@@ -63,33 +63,19 @@ fn way_of(child: &Child, candidate: Candidate<'_>) -> Option<Way>
     ensures { (v : Verifier) (x : Record) (q : Route) (above : Record) → Told x candidate.entry → Comes v x q above (child_meant child.now) result }
 {
     match child {
-        Child::Absent => {
-            if candidate.is_initial {
-                return Some(Way::First);
-            }
-            None
-        }
+        Child::Absent => candidate.is_initial.then_some(Way::First),
         Child::Present(next, hash, by_blum) => {
             if next.is_same(&candidate.path) {
                 if *by_blum {
                     return None;
                 }
                 let own = sha256::digest(candidate.merkle_bytes);
-                if !same_hash(hash, &own) {
-                    return None;
-                }
-                return Some(Way::Again(own));
+                return same_hash(hash, &own).then_some(Way::Again(own));
             }
-            if !candidate.is_initial {
-                return None;
-            }
-            if !candidate.of_node {
-                return None;
-            }
-            if !next.is_below(&candidate.path) {
-                return None;
-            }
-            Some(Way::Between(*next, *hash, *by_blum))
+            let is_between = candidate.is_initial
+                && candidate.of_node
+                && next.is_below(&candidate.path);
+            is_between.then_some(Way::Between(*next, *hash, *by_blum))
         }
     }
 }

@@ -1,4 +1,5 @@
-// Slots found by a hash of their paths, in chains.
+// Slots found by a hash of their paths, in chains. A link is a word: one more than a slot's number, or 0 for none.
+// A chain is walked as long as there may be slots, and left by its label. Links are words and slots are `usize`, between which there is no From.
 #![tactic(auto)]
 
 ghost use Rattle.std.specs.Prelude.{◌≡◌, ℕ, ◌+◌, ◌*◌, ◌<◌, ◌≤◌, Bool, true, false, List, [], ◌∷◌, ◌++◌, length, IfSome, slice_index, slice_index_or, slice_set};

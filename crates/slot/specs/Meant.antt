@@ -1,6 +1,7 @@
 -- What the code's child pointers mean, and their words.
 use Rattle.std.specs.Prelude.{◌≡◌, ℕ, ◌≤◌, List, ◌∷◌, ◌++◌, length, replicate, IfSome}
 use Rattle.std.specs.Option.{option_map}
+use Rattle.std.proofs.Props.{props}
 use Rattle.model.specs.Records.{Pointer, absent, present, pick, Record, data_record, node, key_path}
 use Rattle.path.specs.Packs.{path_in}
 use Rattle.path.specs.declared.packed.Path.{Path}
@@ -27,7 +28,15 @@ abbrev pub IsNamed : Path → Contents → Type 0
 IsNamed p (Node l r) = Unit {0}
 IsNamed p (Data k v) = path_in p.len p.bits ≡ key_path k.now
 
+pub IsNamed-prop : (p : Path) (c : Contents) → IsProp (IsNamed p c)
+IsNamed-prop p (Node l r) = Prim.hlevel props
+IsNamed-prop p (Data k v) = Prim.hlevel props
+
 -- key and value have room in a slot
 abbrev pub IsShort : Contents → Type 0
 IsShort (Node l r) = Unit {0}
 IsShort (Data k v) = (length k.now ≤ 64) × IfSome v (λ x. length x.now ≤ 1024)
+
+pub IsShort-prop : (c : Contents) → IsProp (IsShort c)
+IsShort-prop (Node l r) = Prim.hlevel props
+IsShort-prop (Data k v) = Prim.hlevel props

@@ -15,7 +15,7 @@ mod contents;
 mod text;
 
 use child::Child;
-pub use contents::Contents;
+pub use contents::{Contents, Record};
 use path::{Path, Side};
 pub use text::{same_bytes, write_bytes};
 

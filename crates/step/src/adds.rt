@@ -4,27 +4,30 @@ ghost use Rattle.model.specs.Verifier.{Verifier, verifier_step, add_merkle, add_
 ghost use Rattle.path.specs.Times.{timestamp_of};
 ghost use Rattle.reader.specs.Meaning.{record_of, MerklePart};
 ghost use Rattle.range.specs.Packing.{bits_of, PacksRecord};
-ghost use Rattle.slot.specs.Meant.{record_meant, IsNamed, IsShort};
+ghost use Rattle.slot.specs.Meant.{record_meant};
 ghost use Rattle.block.specs.Blocks.{block_words, Keeps, Taken};
 
 use conditions::Failure;
-use path::{Path, Timestamp};
+use path::Timestamp;
 use range::Packed;
 use record::key_path;
 use slot::Contents;
 use wire::{Contents as Read, Record};
 
-// The path of a record that was read, and what it holds.
-fn stored<'a>(record: Record<'a>, packed: &Packed) -> (Path, Contents<'a>)
+// A record that was read, as it is stored: each child on its own side.
+fn stored<'a>(record: Record<'a>, packed: &Packed) -> slot::Record<'a>
     requires { PacksRecord «record» packed.now }
-    ensures meant { record_meant result.0 result.1 ≡ record_of «record».entry }
-    ensures named { IsNamed result.0 result.1 }
-    ensures short { IsShort result.1 }
+    ensures { record_meant result.path result.contents ≡ record_of «record».entry }
 {
     match record.contents {
-        Read::Value(value) => (key_path(record.name), Contents::Data(record.name, value)),
-        // each child on its own side
-        Read::Children { .. } => (packed.path, Contents::Node(packed.left, packed.right)),
+        Read::Value(value) => slot::Record {
+            path: key_path(record.name),
+            contents: Contents::Data(record.name, value),
+        },
+        Read::Children { .. } => slot::Record {
+            path: packed.path,
+            contents: Contents::Node(packed.left, packed.right),
+        },
     }
 }
 
@@ -41,12 +44,10 @@ pub fn add_merkle(
     ensures same { is_ok result ≡ false → block.new ≡ block.old }
     ensures step { (t : ℕ) (v : Verifier) → Keeps n block.old v → length v.store < n → MerklePart «record».entry → Taken n block.new result (verifier_step t v (add_merkle (record_of «record».entry) (bits_of packed.now.above))) }
 {
-    let (path, contents) = stored(record, packed);
     verifier::add_merkle(
         block,
         n,
-        &path,
-        contents,
+        stored(record, packed),
         record.merkle_bytes,
         &packed.above,
     )
@@ -66,6 +67,5 @@ pub fn add_blum(
     ensures same { is_ok result ≡ false → block.new ≡ block.old }
     ensures step { (t j : ℕ) (v : Verifier) → Keeps n block.old v → length v.store < n → timestamp.counter < 2 ^ 64 - 1 → Taken n block.new result (verifier_step t v (add_blum (record_of «record».entry) (timestamp_of timestamp) j)) }
 {
-    let (path, contents) = stored(record, packed);
-    blum::add_blum(block, n, &path, contents, timestamp)
+    blum::add_blum(block, n, stored(record, packed), timestamp)
 }

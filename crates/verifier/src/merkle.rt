@@ -3,38 +3,36 @@ ghost use Rattle.std.specs.Prelude.{◌≡◌, ℕ, ◌<◌, ◌≤◌, false, �
 ghost use Rattle.model.specs.Records.{is_absent, merkle_bytes as bytes_of};
 ghost use Rattle.model.specs.Verifier.{Verifier, verifier_step, add_merkle, evict_merkle};
 ghost use Rattle.path.specs.Packs.{path_in};
-ghost use Rattle.slot.specs.Meant.{child_meant, record_meant, IsNamed, IsShort};
+ghost use Rattle.slot.specs.Meant.{child_meant, record_meant, IsNamed};
 ghost use Rattle.block.specs.Blocks.{block_words, Keeps, Taken};
 ghost use Rattle.conditions.specs.Adds.{Told};
 
 use block::{SALT, STORE, store};
 use conditions::{Candidate, Failure, may_add_merkle, may_evict_merkle};
 use path::Path;
-use slot::Contents;
 use slot::child::Child;
+use slot::{Contents, Record};
 use store::Store;
 
 // A record is added by Merkle, under the node at `above`. There is room for it.
 pub fn add_merkle(
     block: &mut [u64],
     n: usize,
-    path: &Path,
-    contents: Contents<'_>,
+    record: Record<'_>,
     merkle_bytes: &[u8],
     above: &Path,
 ) -> Result<(), Failure>
     requires few { 2 ≤ n }
     requires room { length block.old ≡ block_words n }
-    requires short { IsShort contents }
     ensures same { is_ok result ≡ false → block.new ≡ block.old }
-    ensures step { (t : ℕ) (v : Verifier) → Keeps n block.old v → length v.store < n → IsNamed path.now contents.entry → merkle_bytes.now ≡ bytes_of (record_meant path.now contents.entry) → Taken n block.new result (verifier_step t v (add_merkle (record_meant path.now contents.entry) (path_in above.now.len above.now.bits))) }
+    ensures step { (t : ℕ) (v : Verifier) → Keeps n block.old v → length v.store < n → merkle_bytes.now ≡ bytes_of (record_meant «record».entry.path «record».entry.contents) → Taken n block.new result (verifier_step t v (add_merkle (record_meant «record».entry.path «record».entry.contents) (path_in above.now.len above.now.bits))) }
 {
-    let candidate = candidate(path, contents, merkle_bytes);
+    let candidate = candidate(&record.path, record.contents, merkle_bytes);
     let adding = may_add_merkle(store(block, n), candidate, above)?;
     let salt = block[SALT];
     let (_, words) = block.split_at_mut(STORE);
     let mut store = Store::new(words, n, salt);
-    changes::add_merkle(&mut store, path, contents, &adding);
+    changes::add_merkle(&mut store, &record.path, record.contents, &adding);
     Ok(())
 }
 

@@ -1,12 +1,8 @@
-use Rattle.std.proofs.Common.{◌≡◌, ℕ, ◌<◌, true, false, List, [], ◌∷◌, Option, Some, None, IfSome, sym, ap, ◌∙◌, arith}
-use Rattle.std.specs.Option.{is_some}
-use Rattle.std.proofs.lemmas.Bool.{not-true, false≢true}
+use Rattle.std.proofs.Common.{sym, ap, ◌∙◌, arith}
+use Rattle.std.proofs.lemmas.Bool.{not-true}
 use Rattle.model.specs.Records.{Path, Record, below, side}
-use Rattle.model.specs.Verifier.{Stored, find, add_merkle_at}
+use Rattle.model.specs.Verifier.{find, add_merkle_at}
 use Rattle.path.specs.Packs.{path_in}
-use Rattle.path.specs.Sides.{side_number}
-use Rattle.index.specs.Chains.{place_or}
-use Rattle.store.specs.Holding.{stored_at, Found}
 use Rattle.store.specs.Stores.{stored_of}
 use Rattle.conditions.specs.Ways.{added_by}
 use Rattle.store.proofs.Asked.{was_found, not_found}

@@ -1,9 +1,6 @@
-use Rattle.std.proofs.Common.{◌≡◌, ℕ, ◌≤◌, true, false, List, [], ◌∷◌, Option, Some, None, IfSome, leb, sym, ◌∙◌, subst, arith, rules}
-use Rattle.std.proofs.lemmas.Bool.{leb-false, lt-leb}
+use Rattle.std.proofs.Common.{true, false, [], ◌∷◌, sym, ◌∙◌, subst, arith, rules}
 use Rattle.model.specs.Records.{Path, pick, node, no_children}
-use Rattle.index.specs.Chains.{place_or}
-use Rattle.model.specs.Verifier.{Stored}
-use Rattle.store.specs.Holding.{Holds, Added}
+use Rattle.store.specs.Holding.{Holds}
 use Rattle.store.proofs.Asked.{added_there}
 use Rattle.store.proofs.Lent.{lent_holds}
 use Rattle.block.proofs.Opened.{first_store}

@@ -12,19 +12,19 @@ use Rattle.blum.proofs.Stepped.{add_fails, adds}
 use Rattle.blum.proofs.adds.add_blum.Goals as goal
 
 pub returns-in_err-after-clause-step : goal.returns-in_err-after-clause-step
-returns-in_err-after-clause-step c = λ t j v k room named fits.
-    wrong _ _ _ _ (add_fails v _ _ t j (c.in_err-after.ensures v _ k (named_path c.args.path.now c.args.contents named) fits)) c.from_residual.ensures.0
+returns-in_err-after-clause-step c = λ t j v k room fits.
+    wrong _ _ _ _ (add_fails v _ _ t j (c.in_err-after.ensures v _ k (named_path c.args.record.path c.args.record.contents c.args.record.named) fits)) c.from_residual.ensures.0
 
 pub returns-clause-step : goal.returns-clause-step
-returns-clause-step c = λ t j v k room named fits.
+returns-clause-step c = λ t j v k room fits.
     right c.args.n _ (tt {0}) _ _ _ _ _
-    (adds v (record_meant c.args.path.now c.args.contents) (timestamp_of c.args.timestamp) t j (c.in_ok-after.ensures v _ k (named_path c.args.path.now c.args.contents named) fits).0)
+    (adds v (record_meant c.args.record.path c.args.record.contents) (timestamp_of c.args.timestamp) t j (c.in_ok-after.ensures v _ k (named_path c.args.record.path c.args.record.contents c.args.record.named) fits).0)
     (keeps_back c.args.n _ _ c.add.new.self.words.now _ (search rules) (
     let n = c.args.n in
     let b = c.advance.new.block in
-    let x : Record = record_meant c.args.path.now c.args.contents in
+    let x : Record = record_meant c.args.record.path c.args.record.contents in
     let m = timestamp_of c.args.timestamp in
-    let can = c.in_ok-after.ensures v x k (named_path c.args.path.now c.args.contents named) fits in
+    let can = c.in_ok-after.ensures v x k (named_path c.args.record.path c.args.record.contents c.args.record.named) fits in
     let w = advance_clock v (just_after m) in
     let kept : Keeps n b w = subst (λ (o : Timestamp). Keeps n b (advance_clock v o)) can.1 (c.advance.ensures n v k) in
     let r = rest_store n b kept.size in
@@ -35,5 +35,5 @@ returns-clause-step c = λ t j v k room named fits.
     let ws = c.add.new.self.words.now in
     let len : length ws ≡ 192 * n = c.add.new.self.room ∙ ap (λ (i : ℕ). 192 * i) (c.add.ensures.frame.0 ∙ S.places) in
     store_split n b _ ws w (record { rec = x; by_merkle = false } ∷ v.store) kept c.split_at_mut-words.ensures.front len
-    (added_there n (salt_in b) ws v.store _ c.add.result room (full v.store H) (stored v.store H named))
+    (added_there n (salt_in b) ws v.store _ c.add.result room (full v.store H) (stored v.store H c.args.record.named))
     ))
