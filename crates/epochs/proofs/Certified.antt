@@ -35,7 +35,7 @@ unfolding number_in
 no_words = refl
 
 -- whether an epoch's sums agree, as code tells
-agree_is : (x : code.Limits) (l : Limits) (m : List ℕ) (s : State) (e a k : ℕ) → Bounded x → Agrees x l → Laid l m s → e ≡ s.certified → a ≡ sum_start x.epochs e → k ≡ 8
+pub agree_is : (x : code.Limits) (l : Limits) (m : List ℕ) (s : State) (e a k : ℕ) → Bounded x → Agrees x l → Laid l m s → e ≡ s.certified → a ≡ sum_start x.epochs e → k ≡ 8
     → eqb (number_in (part 0 4 (part a k m))) (number_in (part 4 4 (part a k m))) ≡ sums_agree s.sums s.certified
 agree_is x l m s e a k bounded same laid is at many =
     let b : a ≡ sum_start l.epochs s.certified = at ∙ ap (λ (n : ℕ). sum_start n e) (sym same.epochs) ∙ ap (sum_start l.epochs) is in
@@ -62,16 +62,13 @@ module _ (x : code.Limits) (m : List ℕ) (e : ℕ) (bounded : Bounded x) (reads
 
   -- ---- all are done
 
-  module _ (a k : ℕ) (at : a ≡ sum_start x.epochs e) (many : k ≡ 8) (done : (l : Limits) (s : State) → Agrees x l → Laid l m s → true ≡ all_done s.verifiers e) where
+  module _ (done : (l : Limits) (s : State) → Agrees x l → Laid l m s → true ≡ all_done s.verifiers e) where
     all_are : (l : Limits) (s : State) → Agrees x l → Laid l m s → all_done s.verifiers s.certified ≡ true
     all_are l s same laid = ap (all_done s.verifiers) (sym (reads l s laid)) ∙ sym (done l s same laid)
 
-    agree_at : (l : Limits) (s : State) → Agrees x l → Laid l m s → eqb (number_in (part 0 4 (part a k m))) (number_in (part 4 4 (part a k m))) ≡ sums_agree s.sums s.certified
-    agree_at l s same laid = agree_is x l m s e a k bounded same laid (reads l s laid) at many
-
-    pub settles_differing : false ≡ eqb (number_in (part 0 4 (part a k m))) (number_in (part 4 4 (part a k m))) → Settles x true m (set m 3 1)
+    pub settles_differing : ((l : Limits) (s : State) → Agrees x l → Laid l m s → e ≡ s.certified → false ≡ sums_agree s.sums s.certified) → Settles x true m (set m 3 1)
     settles_differing differ l s z same laid going one vs ss cs st =
-        let d : sums_agree s.sums s.certified ≡ false = sym (differ ∙ agree_at l s same laid) in
+        let d : sums_agree s.sums s.certified ≡ false = sym (differ l s same laid (reads l s laid)) in
         let zc : z.certified ≡ s.certified = cs ∙ certify_differs (suc l.epochs) s.verifiers s.sums s.certified d in
         record {
           differ = sym (and_from (all_done z.verifiers z.certified) (not (sums_agree z.sums z.certified))
@@ -138,10 +135,10 @@ module _ (x : code.Limits) (m : List ℕ) (e : ℕ) (bounded : Bounded x) (reads
           (λ f low high. head_sum l cleared 4 (e + 1) (omega arith) f ∙ sum_is f (omega arith) (omega arith) ∙ ap (λ (xs : List Sum). sum_at xs f) (sym ss))
           (λ f h. ap (λ (xs : List Sum). sum_at xs f) ss ∙ laid.later f (omega arith))
 
-    pub settles_agreeing : (zs : List ℕ) → zs ≡ replicate 8 0 → true ≡ eqb (number_in (part 0 4 (part a k m))) (number_in (part 4 4 (part a k m)))
+    pub settles_agreeing : (a k : ℕ) (zs : List ℕ) → a ≡ sum_start x.epochs e → k ≡ 8 → zs ≡ replicate 8 0 → ((l : Limits) (s : State) → Agrees x l → Laid l m s → e ≡ s.certified → true ≡ sums_agree s.sums s.certified)
         → Settles x false m (set (put a k m zs) 4 (e + 1))
-    settles_agreeing zs zeros agree l s z same laid going one vs ss cs st =
-        let g : sums_agree s.sums s.certified ≡ true = sym (agree ∙ agree_at l s same laid) in
+    settles_agreeing a k zs at many zeros agree l s z same laid going one vs ss cs st =
+        let g : sums_agree s.sums s.certified ≡ true = sym (agree l s same laid (reads l s laid)) in
         let zc : z.certified ≡ suc s.certified = cs ∙ certify_one l.epochs s.verifiers s.sums s.certified (all_are l s same laid) g one in
         let zw : all_done z.verifiers z.certified ≡ false = ap₂ all_done vs zc ∙ one in
         let p : a ≡ sum_start l.epochs s.certified = at ∙ ap (λ (n : ℕ). sum_start n e) (sym same.epochs) ∙ ap (sum_start l.epochs) (reads l s laid) in

@@ -3,7 +3,7 @@ ghost use Rattle.std.specs.Prelude.{◌≡◌, ◌≤◌, length};
 ghost use Rattle.model.specs.Monitor.{Limits as Meant, State};
 ghost use Rattle.memory.specs.Keeping.{Kept, Laid};
 
-use crate::{CERTIFIED, STOPPED};
+use memory::{CERTIFIED, STOPPED};
 
 // How many epochs are certified.
 pub fn certified_in(mem: &[u64]) -> u64

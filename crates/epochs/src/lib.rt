@@ -7,9 +7,4 @@ mod summing;
 
 pub use certifying::settle;
 pub use header::{certified_in, is_stopped};
-pub use summing::{add_added, add_evicted};
-
-// Where the header's words are.
-const STOPPED: usize = 3;
-
-const CERTIFIED: usize = 4;
+pub use summing::{SumOf, add};

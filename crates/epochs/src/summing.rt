@@ -1,11 +1,17 @@
 // What is added and evicted by Blum, in the sums of its epoch.
-ghost use Rattle.std.specs.Prelude.{◌≡◌, ◌+◌, ◌*◌, ◌≤◌, length};
-ghost use Rattle.model.specs.Monitor.{add_elements, evict_elements};
+ghost use Rattle.std.specs.Prelude.{◌≡◌, ◌+◌, ◌*◌, ◌≤◌};
 ghost use Rattle.memory.specs.Keeping.{sum_start, Kept, Laid};
-ghost use Rattle.memory.specs.Ranges.{Bounded, words_for};
-ghost use Rattle.epochs.specs.Summing.{Sums};
+ghost use Rattle.memory.specs.Ranges.{Bounded};
+ghost use Rattle.epochs.specs.Summing.{summed, Sums};
 
-use memory::{HEADER, Limits};
+use memory::{HEADER, Limits, Memory};
+
+// What an epoch has a sum of: the elements that were added in it, and those that were evicted.
+#[derive(Clone, Copy)]
+pub enum SumOf {
+    Added,
+    Evicted,
+}
 
 // Where the sums of an epoch begin.
 pub(crate) fn sum_start(limits: Limits, epoch: u64) -> usize
@@ -16,24 +22,17 @@ pub(crate) fn sum_start(limits: Limits, epoch: u64) -> usize
     HEADER + 32 * (epoch as usize % limits.epochs)
 }
 
-// Adds an element's hash to the sum of what was added in its epoch.
-pub fn add_added(mem: &mut [u64], limits: Limits, epoch: u64, hash: &[u64; 4])
-    requires bounded { Bounded limits }
-    requires room { length mem.old ≡ words_for limits }
-    ensures laid { Sums Laid add_elements limits epoch hash.now mem.old mem.new }
-    ensures kept { Sums Kept add_elements limits epoch hash.now mem.old mem.new }
+// Adds an element's hash to a sum of its epoch.
+pub fn add(memory: &mut Memory<'_>, sum: SumOf, epoch: u64, hash: &[u64; 4])
+    ensures same { memory.new.words.ghost_name ≡ memory.old.words.ghost_name }
+    ensures limits { memory.new.limits ≡ memory.old.limits }
+    ensures laid { Sums Laid (summed sum) memory.old.limits epoch hash.now memory.old.words.now memory.new.words.now }
+    ensures kept { Sums Kept (summed sum) memory.old.limits epoch hash.now memory.old.words.now memory.new.words.now }
 {
-    let a = sum_start(limits, epoch);
-    sums::add(&mut mem[a..a + 4], hash);
-}
-
-// Adds an element's hash to the sum of what was evicted in its epoch.
-pub fn add_evicted(mem: &mut [u64], limits: Limits, epoch: u64, hash: &[u64; 4])
-    requires bounded { Bounded limits }
-    requires room { length mem.old ≡ words_for limits }
-    ensures laid { Sums Laid evict_elements limits epoch hash.now mem.old mem.new }
-    ensures kept { Sums Kept evict_elements limits epoch hash.now mem.old mem.new }
-{
-    let a = sum_start(limits, epoch) + 4;
-    sums::add(&mut mem[a..a + 4], hash);
+    let offset = match sum {
+        SumOf::Added => 0,
+        SumOf::Evicted => 4,
+    };
+    let a = sum_start(memory.limits, epoch) + offset;
+    sums::add(&mut memory.words[a..a + 4], hash);
 }

@@ -18,28 +18,21 @@ pub struct Limits {
 fn are_in_bounds(limits: Limits) -> bool
     ensures { result ≡ in_bounds limits }
 {
-    if limits.verifiers < 1 || limits.verifiers > 64 {
-        return false;
-    }
-    if limits.places < 2 || limits.places > 32768 {
-        return false;
-    }
-    limits.epochs >= 2 && limits.epochs <= 16
+    (1..=64).contains(&limits.verifiers)
+        && (2..=32768).contains(&limits.places)
+        && (2..=16).contains(&limits.epochs)
 }
 
 // How many words of memory the limits need, unless they are out of range.
 pub fn words_needed(limits: Limits) -> Option<usize>
     ensures { MatchOption result (in_bounds limits ≡ false) (λ n. (in_bounds limits ≡ true) × (n ≡ words_for limits)) }
 {
-    if !are_in_bounds(limits) {
-        return None;
-    }
-    Some(
+    are_in_bounds(limits).then(|| {
         192 * (limits.verifiers * limits.places)
             + 64 * limits.verifiers
             + 32 * limits.epochs
-            + HEADER,
-    )
+            + HEADER
+    })
 }
 
 // The limits that memory was opened with, unless they are out of range or need other memory.
@@ -55,10 +48,7 @@ pub fn limits_of(mem: &[u64]) -> Option<Limits>
         places: mem[1] as usize,
         epochs: mem[2] as usize,
     };
-    let Some(needed) = words_needed(limits) else {
-        return None;
-    };
-    if mem.len() != needed {
+    if mem.len() != words_needed(limits)? {
         return None;
     }
     Some(limits)

@@ -9,7 +9,7 @@ ghost use Rattle.memory.specs.Opening.{Headed, salt_from};
 ghost use Rattle.memory.specs.Ranges.{Agrees, Bounded, in_bounds, words_for};
 
 use crate::limits::block_start;
-use crate::{HEADER, Limits, words_needed};
+use crate::{CERTIFIED, HEADER, Limits, Memory, SECRET, STOPPED, words_needed};
 use slot::write_bytes;
 
 // The salt of every store. An element's hash is taken over more bytes, so this is none.
@@ -29,23 +29,25 @@ fn write_header(head: &mut [u64], limits: Limits, secret: &[u8; 32])
     head[0] = limits.verifiers as u64;
     head[1] = limits.places as u64;
     head[2] = limits.epochs as u64;
-    head[3] = 0;
-    head[4] = 0;
-    write_bytes(&mut head[8..12], secret);
+    head[STOPPED] = 0;
+    head[CERTIFIED] = 0;
+    write_bytes(&mut head[SECRET..SECRET + 4], secret);
 }
 
 // Opens each verifier's block. The first verifier has the root.
-fn open_blocks(mem: &mut [u64], limits: Limits, salt: u64)
-    requires bounded { Bounded limits }
-    requires room { length mem.old ≡ words_for limits }
-    ensures head { (i : ℕ) → i < 256 → slice_index mem.new i ≡ slice_index mem.old i }
-    ensures low { (a k : ℕ) → a + k ≤ 256 + 32 * limits.epochs → part a k mem.new ≡ part a k mem.old }
-    ensures blocks { (t : ℕ) → t < limits.verifiers → Keeps limits.places (part (block_start limits.epochs limits.places t) (block_words limits.places) mem.new) (new_verifier t) }
+fn open_blocks(memory: &mut Memory<'_>, salt: u64)
+    ensures same { memory.new.words.ghost_name ≡ memory.old.words.ghost_name }
+    ensures limits { memory.new.limits ≡ memory.old.limits }
+    ensures head { (i : ℕ) → i < 256 → slice_index memory.new.words.now i ≡ slice_index memory.old.words.now i }
+    ensures low { (a k : ℕ) → a + k ≤ 256 + 32 * memory.old.limits.epochs → part a k memory.new.words.now ≡ part a k memory.old.words.now }
+    ensures blocks { (t : ℕ) → t < memory.old.limits.verifiers → Keeps memory.old.limits.places (part (block_start memory.old.limits.epochs memory.old.limits.places t) (block_words memory.old.limits.places) memory.new.words.now) (new_verifier t) }
 {
+    let limits = memory.limits;
+    // By index: what `chunks_exact_mut` lends is known after the loop only by how many words it is.
     for t in 0..limits.verifiers {
         let a = block_start(limits, t);
         block::open(
-            &mut mem[a..a + block::STORE + 192 * limits.places],
+            &mut memory.words[a..a + block::STORE + 192 * limits.places],
             limits.places,
             salt,
             t == 0,
@@ -53,14 +55,14 @@ fn open_blocks(mem: &mut [u64], limits: Limits, salt: u64)
     }
 }
 
-fn write_all(mem: &mut [u64], limits: Limits, secret: &[u8; 32])
-    requires bounded { Bounded limits }
-    requires room { length mem.old ≡ words_for limits }
-    ensures { (l : Meant) → Agrees limits l → l.secret ≡ secret.now → Kept l mem.new (new_state l) }
+fn write_all(memory: &mut Memory<'_>, secret: &[u8; 32])
+    ensures same { memory.new.words.ghost_name ≡ memory.old.words.ghost_name }
+    ensures kept { (l : Meant) → Agrees memory.old.limits l → l.secret ≡ secret.now → Kept l memory.new.words.now (new_state l) }
 {
-    write_header(&mut mem[0..HEADER], limits, secret);
-    mem[HEADER..HEADER + 32 * limits.epochs].fill(0);
-    open_blocks(mem, limits, salt_of(secret));
+    let limits = memory.limits;
+    write_header(&mut memory.words[0..HEADER], limits, secret);
+    memory.words[HEADER..HEADER + 32 * limits.epochs].fill(0);
+    open_blocks(memory, salt_of(secret));
 }
 
 // Opens memory for a monitor with these limits and this secret, whatever the words were.
@@ -76,6 +78,6 @@ pub fn open(mem: &mut [u64], limits: Limits, secret: &[u8; 32]) -> bool
     if mem.len() != needed {
         return false;
     }
-    write_all(mem, limits, secret);
+    write_all(&mut Memory { words: mem, limits }, secret);
     true
 }

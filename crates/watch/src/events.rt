@@ -13,16 +13,12 @@ ghost use Rattle.watch.specs.Promise.{IsRefused, Responds};
 use admission::{Standing, admitted};
 use block::STORE;
 use finish::finish;
-use memory::{Limits, block_start};
+use memory::{CERTIFIED, Limits, Memory, SECRET, STOPPED, block_start};
 use step::step;
 use wire::{Answer, Entry, Refusal};
 
-// Words of the header.
-const STOPPED: usize = 3;
-
-const CERTIFIED: usize = 4;
-
-const SECRET: usize = 8;
+// The words and the limits stand apart here: of words in a `Memory` that is lent to be written, a part lent to be read
+// leaves known only how many they are.
 
 // How the monitor stands.
 fn standing(mem: &[u64], limits: Limits) -> Standing
@@ -85,7 +81,7 @@ pub fn logged(mem: &mut [u64], limits: Limits, verifier: u64, entry: Entry<'_>) 
         entry,
         &packed,
     ) {
-        Ok(effect) => finish(mem, limits, effect, verifies),
+        Ok(effect) => finish(&mut Memory { words: mem, limits }, effect, verifies),
         Err(_) => {
             mem[STOPPED] = 1;
             Answer::Wrong

@@ -1,5 +1,9 @@
-use Rattle.epochs.proofs.Passed.{Passed}
+use Rattle.std.proofs.Common.{length}
+use Rattle.epochs.proofs.Passed.{Left, Passed}
 use Rattle.epochs.proofs.certifying.are_all_done.Given as goal
 
-abbrev pub invariant-loop-t : goal.invariant-loop-t
-invariant-loop-t l = Passed l.limits l.mem l.epoch l.t
+abbrev pub invariant-loop-words : goal.invariant-loop-words
+invariant-loop-words l = record {
+  left : Left l.memory.limits l.memory.words.now l.words-iterator.rest.now l.words-iterator.size (length l.yielded);
+  passed : Passed l.memory.limits l.memory.words.now l.epoch (length l.yielded);
+}

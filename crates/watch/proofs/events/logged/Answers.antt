@@ -74,7 +74,7 @@ returns-in-Ok-step c = record {
       let st = settled l es in
       let at = c.block_start-a.result in
       let is = c.block_start-a.ensures in
-      right_kept l x m s t a k lt at is e ok st c.step.new.block c.in-Ok-step.effect g' c.finish.new.mem c.finish.result c.verifies_epoch-verifies.result
+      right_kept l x m s t a k lt at is e ok st c.step.new.block c.in-Ok-step.effect g' c.finish.new.memory.words.now c.finish.result c.verifies_epoch-verifies.result
       c.verifies_epoch-verifies.ensures (λ s₁ z laid ready. c.finish.ensures.finished l s₁ z a laid ready);
 }
 
