@@ -9,7 +9,8 @@ use Rattle.slot.specs.Parts.{part}
 use Rattle.slot.specs.Layout.{number_in, pointer_in}
 use Rattle.slot.proofs.Parted.{length_part, fit_part}
 use Rattle.slot.proofs.Finding.{pick_true, pick_false}
-use Rattle.gather.proofs.Eights.{numbers_in, bytes_of_number}
+use Rattle.slot.proofs.Eights.{numbers_in}
+use Rattle.gather.proofs.Eights.{bytes_of_number}
 
 pub absent_bytes : (w : List ℕ) → get_or w 0 0 ≡ 0 → pointer_bytes (pointer_in w) ≡ 0 ∷ []
 unfolding pointer_in pointer_bytes

@@ -63,10 +63,12 @@ fn pointer_into(pointer: &[u64], w: &mut Writer)
     requires room { w.old.at + 292 ≤ length w.old.out.now }
     ensures { Gathered (PointerPacks pointer.now) w.old (pointer_bytes (pointer_in pointer.now)) 292 w.new }
 {
+    // kinds are numbers here and below: they stand in lent words
     if pointer[0] == 0 {
         w.byte(0);
         return;
     }
+    // usize and u64 are as wide here, and no From stands between them
     let len = (pointer[1] as usize).min(256);
     w.byte(1);
     w.byte(u8::from(pointer[0] == 2));

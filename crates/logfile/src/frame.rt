@@ -27,6 +27,7 @@ pub fn frame_at(bytes: &[u8]) -> Result<Frame, Short>
     let length = bytes.first_chunk().ok_or(Short {
         wanted: LENGTH_BYTES,
     })?;
+    // `as`: usize has no From<u32>
     let len = u32::from_le_bytes(*length) as usize;
     let kept = len.min(KEPT_BYTES);
     let wanted = LENGTH_BYTES + kept;

@@ -134,7 +134,7 @@ impl<'a> SoFar<'a> {
     }
 }
 
-// What a word is on its own.
+// What a word is on its own. `Plain` and `Other` stand among the flags, for then every word is one case of what `flag_of` promises.
 #[derive(Clone, Copy)]
 enum Flag {
     Plain,

@@ -108,14 +108,9 @@ pub fn path_from_words(len: usize, bits: &[u64]) -> Option<Path>
     ensures path { IfSome result (λ p. (p.len ≡ len) × (p.bits ≡ bits.now)) }
     ensures some { length bits.now ≡ 4 → Packs len bits.now → is_some result ≡ true }
 {
-    let [a, b, c, d] = *bits else {
-        return None;
-    };
-    if !none_past(len, bits) {
+    let bits = *bits.as_array()?;
+    if !none_past(len, &bits) {
         return None;
     }
-    Some(Path {
-        len,
-        bits: [a, b, c, d],
-    })
+    Some(Path { len, bits })
 }

@@ -48,6 +48,7 @@ impl Path {
     }
 
     // Is this path before that one in the order of paths?
+    // No derived order, here and below: the same test serves the words of a record, which are no `Path`.
     pub fn is_before(&self, q: &Path) -> bool
         ensures { result ≡ less_bytes (path_in self.now.len self.now.bits) (path_in q.now.len q.now.bits) }
     {

@@ -44,10 +44,6 @@ module _ (xs ws : List ℕ) (l : length xs ≤ 64 * length ws) (e : word_bits ws
 pub front_filled : (n : ℕ) (xs ys : List ℕ) → ys ≡ xs → ys ++ drop (length xs) (replicate n 0) ≡ xs ++ replicate (n - length xs) 0
 front_filled n xs ys e = ap₂ (λ (x y : List ℕ). x ++ y) e (drop-replicate (length xs) n 0)
 
--- and where it is written from 0 on
-pub copied_front : (n : ℕ) (xs ys : List ℕ) → ys ≡ xs → ys ++ drop (length xs - 0) (replicate n 0) ≡ xs ++ replicate (n - length xs) 0
-copied_front n xs ys e = ap (λ (k : ℕ). ys ++ drop k (replicate n 0)) (let z : length xs - 0 ≡ length xs = omega arith in z) ∙ front_filled n xs ys e
-
 -- four words that are packed from the filled bytes ys
 abbrev pub WordPacked : List ℕ → List ℕ → ℕ → Type 0
 WordPacked ys ws i = are_bits (take 64 (drop (64 * i) ys)) ≡ true → bits 64 (get_or ws i 0) ≡ take 64 (drop (64 * i) ys)

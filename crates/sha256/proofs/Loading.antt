@@ -56,3 +56,6 @@ sixteen_words block xs l e =
     let f = drop-drop 4 8 xs in
     let g = pieces_are 16 block l in
     cc
+
+pub four_listed : (rs : List ℕ) → length rs ≡ 4 → rs ≡ get_or rs 0 0 ∷ (get_or rs 1 0 ∷ (get_or rs 2 0 ∷ (get_or rs 3 0 ∷ [])))
+four_listed rs l = by_four (λ (x : List ℕ). x ≡ get_or x 0 0 ∷ (get_or x 1 0 ∷ (get_or x 2 0 ∷ (get_or x 3 0 ∷ [])))) (λ p q r s. refl) rs l

@@ -9,6 +9,7 @@ ghost use Rattle.sha256.specs.Limbs.{Limbs, limbs_bytes, limbs_number};
 ghost use Rattle.sha256.specs.Parts.{add_states, add_words, big_sigma_0, big_sigma_1, bit_length_bytes, ch, compress_block, final_state, initial_state, limb_of, maj, padding, round, round_constants, rounds_on, small_sigma_0, small_sigma_1};
 ghost use Rattle.sha256.specs.View.{state_of, sums_of, words_of};
 
+use std::array;
 use std::simd::prelude::*;
 
 // Section 4.2.2: a table, as the standard gives it.
@@ -159,6 +160,7 @@ fn compress_block(start: HashState, block: &[u8; 64]) -> HashState
     let mut words = block_words(block);
     let mut sums = add_constants(words, 0);
     let mut state = start;
+    // counted, for the next sixteen words are those of the rounds from 16 * j on
     for j in 1..4 {
         let next = rounds_and_schedule(state, words, &sums, 16 * j);
         state = next.state;
@@ -200,12 +202,7 @@ fn four_words(words: &[[u8; 4]]) -> u32x4
     requires { length words.now ≡ 4 }
     ensures { result ≡ flat_map be_words words.now }
 {
-    u32x4::from_array([
-        u32::from_be_bytes(words[0]),
-        u32::from_be_bytes(words[1]),
-        u32::from_be_bytes(words[2]),
-        u32::from_be_bytes(words[3]),
-    ])
+    u32x4::from_array(array::from_fn(|i| u32::from_be_bytes(words[i])))
 }
 
 // Sixteen rounds over `sums`, and the sixteen words that follow `w`, with the constants from `t` on.
@@ -303,7 +300,7 @@ fn round_on(s: HashState, x: u32) -> HashState
     }
 }
 
-// Section 4.1.2.
+// Section 4.1.2: each of these functions is one of the standard's, under its name.
 fn choose(x: u32, y: u32, z: u32) -> u32
     ensures { result ≡ ch x y z }
 {

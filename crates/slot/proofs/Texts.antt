@@ -127,9 +127,3 @@ text_front n t ws vs l h e =
 -- all words of a text are written
 pub all_back : (n : ℕ) (t ws : List ℕ) → take n ws ≡ words_of n t → length ws ≤ n → length t ≤ 8 * n → AllBytes t → take (length t) (bytes_in ws) ≡ t
 all_back n t ws e h l b = ap (λ (x : List ℕ). take (length t) (bytes_in x)) (sym (take_all n ws h) ∙ e) ∙ text_back n t l b
-
--- fewer than eight bytes are left
-pub last_eight : (t : List ℕ) (k : ℕ) → length t ≤ k + 8 → take (length t - k) (drop k t) ≡ take 8 (drop k t)
-last_eight t k h =
-    let l = length-drop k t in
-    take_all (length t - k) (drop k t) (omega arith) ∙ sym (take_all 8 (drop k t) (omega arith))

@@ -57,6 +57,7 @@ fn write_head(slot: &mut [u64], kind: u64, by_merkle: bool, path: &Path)
 {
     slot[KIND] = kind;
     slot[BY_MERKLE] = u64::from(by_merkle);
+    // usize and u64 are as wide here, and no From stands between them
     slot[2] = path.len as u64;
     slot[3..7].copy_from_slice(&path.bits);
 }
@@ -82,7 +83,7 @@ fn write_key(slot: &mut [u64], path: &Path, key: &[u8], by_merkle: bool)
 {
     write_head(slot, 1, by_merkle, path);
     slot[KEY] = key.len() as u64;
-    let past = KEY + 1 + (key.len() + 7) / 8;
+    let past = KEY + 1 + key.len().div_ceil(8);
     write_bytes(&mut slot[KEY + 1..past], key);
     slot[VALUE] = 0;
     slot[MARK] = 0;
@@ -153,7 +154,7 @@ pub fn set_value(slot: &mut [u64], value: &[u8])
 {
     slot[KIND] = 2;
     slot[VALUE] = value.len() as u64;
-    let past = VALUE + 1 + (value.len() + 7) / 8;
+    let past = VALUE + 1 + value.len().div_ceil(8);
     write_bytes(&mut slot[VALUE + 1..past], value);
     slot[MARK] = 0; // the hash was of the value before
 }

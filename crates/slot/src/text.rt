@@ -8,9 +8,8 @@ fn word_of(bytes: &[u8]) -> u64
     requires { length bytes.now ≤ 8 }
     ensures { result ≡ le_number bytes.now }
 {
-    let mut eight = [0u8; 8];
-    let n = bytes.len();
-    eight[0..n].copy_from_slice(bytes);
+    let mut eight = [0; 8];
+    eight[..bytes.len()].copy_from_slice(bytes);
     u64::from_le_bytes(eight)
 }
 
@@ -20,12 +19,13 @@ pub fn write_bytes(words: &mut [u64], bytes: &[u8])
     requires fits { length words.old ≡ (length bytes.now + 7) / 8 }
     ensures { take (length bytes.now) (bytes_in words.new) ≡ bytes.now }
 {
-    let whole = bytes.len() / 8;
-    for j in 0..whole {
-        words[j] = word_of(&bytes[8 * j..8 * j + 8]);
+    let (eights, tail) = bytes.as_chunks();
+    // by index: of words that `iter_mut` lends out a proof knows only how many there are
+    for (j, eight) in eights.iter().enumerate() {
+        words[j] = u64::from_le_bytes(*eight);
     }
-    if whole < words.len() {
-        words[whole] = word_of(&bytes[8 * whole..bytes.len()]);
+    if !tail.is_empty() {
+        words[eights.len()] = word_of(tail);
     }
 }
 
@@ -34,19 +34,14 @@ pub fn same_bytes(words: &[u64], len: usize, bytes: &[u8]) -> bool
     requires room { len ≤ 8 * length words.now }
     ensures { result ≡ same_bytes (take len (bytes_in words.now)) bytes.now }
 {
-    if bytes.len() != len {
-        return false;
+    let (eights, tail) = bytes.as_chunks();
+    let same = bytes.len() == len
+        && eights
+            .iter()
+            .zip(words)
+            .all(|(eight, word)| u64::from_le_bytes(*eight) == *word);
+    match words.get(eights.len()) {
+        Some(word) => same && &word.to_le_bytes()[..tail.len()] == tail,
+        None => same,
     }
-    let whole = len / 8;
-    for j in 0..whole {
-        if words[j] != word_of(&bytes[8 * j..8 * j + 8]) {
-            return false;
-        }
-    }
-    for i in 8 * whole..len {
-        if (words[i / 8] >> (8 * (i % 8))) % 256 != bytes[i] as u64 {
-            return false;
-        }
-    }
-    true
 }

@@ -15,6 +15,7 @@ const SEED: u64 = 0x9e37_79b9_7f4a_7c15;
 fn main(rt: HostRuntime) -> io::Result<()> {
     let mut random = Random::new(SEED);
     let mut counts = Counts::default();
+    // a number of times, and no items
     for _ in 0..ROUNDS {
         rounds::written_event(&mut random, &mut counts);
         rounds::changed_event(&mut random, &mut counts);

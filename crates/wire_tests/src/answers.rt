@@ -14,6 +14,7 @@ fn both_ways(rt: &impl Abort, answer: Answer, bytes: &[u8]) {
     assert_eq!(rt; &to[..n], bytes);
     assert_eq!(rt; read_answer(&to[..n]), Some(answer));
     assert_eq!(rt; read_answer(&to[..n + 1]), None);
+    // lengths, and no items: each front of the bytes
     for k in 0..n {
         assert_eq!(rt; read_answer(&to[..k]), None);
         let mut short = [0u8; ROOM];

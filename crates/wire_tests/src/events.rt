@@ -34,6 +34,7 @@ fn written_again(rt: &impl Abort, bytes: &[u8]) -> Result<(), Fail> {
 
 // A field that is cut short is malformed at the end.
 fn cut_short(rt: &impl Abort, bytes: &[u8]) {
+    // lengths, and no items: each front of the bytes
     for n in 0..bytes.len() {
         assert_eq!(rt; place(&bytes[..n]), Some(n));
     }

@@ -1,4 +1,5 @@
 // How many bytes an event has; none, if a text is longer than its length can say.
+// Counted beside the writing, since it has to be known before the first byte is written.
 ghost use Rattle.std.specs.Prelude.{◌≡◌, ◌≤◌, length, IfSome, if◌then◌else◌, Some, None};
 ghost use Rattle.model.specs.Monitor.{logged};
 ghost use Rattle.model.specs.Readable.{readable};

@@ -70,6 +70,7 @@ impl<'a> Writer<'a> {
         ensures end { self.new.at ≡ self.old.at + 2 }
         ensures wrote { Written self.old (le_bytes 2 n) self.new }
     {
+        // `as`: TryFrom would want an answer for what the remainder rules out
         self.bytes(&((n % 65536) as u16).to_le_bytes());
     }
 }

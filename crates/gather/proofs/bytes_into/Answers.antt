@@ -4,7 +4,8 @@ use Rattle.slot.specs.Layout.{bytes_in}
 use Rattle.record.proofs.Filled.{more_taken}
 use Rattle.writer.proofs.Bytes.{eight_bytes}
 use Rattle.writer.proofs.Joined.{written_as, written_join}
-use Rattle.gather.proofs.Eights.{numbers_taken, word_bytes}
+use Rattle.slot.proofs.Eights.{word_bytes}
+use Rattle.gather.proofs.Eights.{numbers_taken}
 use Rattle.gather.proofs.bytes_into.Goals as goal
 
 pub returns-then-n-gt0-clause-wrote : goal.returns-then-n-gt0-clause-wrote

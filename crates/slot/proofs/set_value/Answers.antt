@@ -13,7 +13,7 @@ returns c =
     let t = c.args.value.now in
     let v : List ℕ = set (set w 0 2) 17 (length t) in
     let ts = c.write_bytes.new.words in
-    let n = 18 + (length t + 7) / 8 - 18 in
+    let n = 18 + c.div_ceil.result - 18 in
     let few = c.requires.value in
     let size : length v ≡ 190 = length-set (set w 0 2) 17 (length t) ∙ length-set w 0 2 ∙ c.requires.size in
     let fits : length ts ≡ (length t + 7) / 8 = c.write_bytes.auto.words ∙ length_part 18 n v (omega arith) ∙ (let q : n ≡ (length t + 7) / 8 = omega arith in q) in

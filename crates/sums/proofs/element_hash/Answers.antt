@@ -2,7 +2,7 @@ use Rattle.std.proofs.Common.{rules, ◌++◌, List, ℕ, ap, ◌∙◌, arith}
 use Rattle.model.specs.Records.{hash_of}
 use Rattle.slot.proofs.Numbers.{limbs_in}
 use Rattle.writer.proofs.Joined.{written_join, left, front}
-use Rattle.sums.proofs.Messages.{numbers_in}
+use Rattle.slot.proofs.Eights.{numbers_in}
 use Rattle.sums.proofs.element_hash.Goals as goal
 
 pub returns : goal.returns

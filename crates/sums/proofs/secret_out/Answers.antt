@@ -1,6 +1,6 @@
 use Rattle.std.proofs.Common.{rules, ◌∙◌, arith}
 use Rattle.writer.proofs.Joined.{left, front}
-use Rattle.sums.proofs.Messages.{numbers_in}
+use Rattle.slot.proofs.Eights.{numbers_in}
 use Rattle.sums.proofs.secret_out.Goals as goal
 
 pub returns : goal.returns
