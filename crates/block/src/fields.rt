@@ -18,11 +18,12 @@ pub fn clock(block: &[u64]) -> Timestamp
     }
 }
 
-// The path that the verifier evicted last; the root where no path is in the words.
+// The path that the verifier evicted last; the root where no path is in the words, as `set_clock` never leaves them.
 pub fn last_evicted(block: &[u64]) -> Path
     requires { 64 ≤ length block.now }
     ensures { (n : ℕ) (v : Verifier) → Keeps n block.now v → path_in result.len result.bits ≡ v.last_evicted }
 {
+    // no From stands between `u64` and `usize`
     path_from_words(block[2] as usize, &block[3..7]).unwrap_or(Path::root())
 }
 

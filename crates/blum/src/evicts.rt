@@ -33,6 +33,7 @@ fn element_hash_of(
     requires { i < store.places }
     ensures { Slot (slot_of store.entry i) → number_in result ≡ element_hash (bytes_in secret.now) (record { rec = (stored_of store.entry i).rec; timestamp = timestamp_of timestamp; verifier = verifier }) }
 {
+    // no heap: room for the longest, and where this one ends
     let mut message = [0u8; MESSAGE_BYTES];
     secret_out(secret, &mut message);
     let end = element_out(

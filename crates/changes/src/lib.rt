@@ -29,6 +29,7 @@ fn merkle_hash_of(store: StoreRef<'_>, i: usize) -> [u64; 4]
     if let Some(hash) = known_hash(store, i) {
         return hash;
     }
+    // no heap: room for the longest, and where this one ends
     let mut bytes = [0u8; MERKLE_BYTES];
     let end = merkle_out(store.slot(i), &mut bytes, 0);
     digest(&bytes[0..end])

@@ -51,7 +51,7 @@ pub fn may_evict_merkle(store: StoreRef<'_>, path: &Path, above: &Path) -> Resul
     })
 }
 
-// Is it the same hash?
+// Is it the same hash? A function, for its contract says it of the numbers that these words are.
 fn same_hash(a: &[u64; 4], b: &[u64; 4]) -> bool
     ensures { result ≡ (number_in a.now == number_in b.now) }
 {

@@ -19,6 +19,7 @@ pub(crate) fn sum_start(limits: Limits, epoch: u64) -> usize
     ensures start { result ≡ sum_start limits.epochs epoch }
     ensures within { result + 32 ≤ 256 + 32 * limits.epochs }
 {
+    // no From stands between `u64` and `usize`
     HEADER + 32 * (epoch as usize % limits.epochs)
 }
 

@@ -135,7 +135,8 @@ fn record_into(slot: &[u64], w: &mut Writer)
     }
 }
 
-// Each function that is called from outside writes from `at` on, and tells where the next byte goes.
+// Each function that is called from outside writes from `at` on, and tells where the next byte goes: its callers hash what is before
+// that, and have no other use for a writer.
 
 // What the Merkle hash of the record in a slot is taken over.
 pub fn merkle_out(slot: &[u64], out: &mut [u8], at: usize) -> usize

@@ -1,5 +1,6 @@
 // Slots found by a hash of their paths, in chains. A link is a word: one more than a slot's number, or 0 for none.
-// A chain is walked as long as there may be slots, and left by its label. Links are words and slots are `usize`, between which there is no From.
+// A chain is walked as long as there may be slots, and left by its label. Links are words and slots `usize`, between which no From
+// stands. The words come apart from the slots' and for one call: a struct of words and number would be made anew for each.
 #![tactic(auto)]
 
 ghost use Rattle.std.specs.Prelude.{◌≡◌, ℕ, ◌+◌, ◌*◌, ◌<◌, ◌≤◌, Bool, true, false, List, [], ◌∷◌, ◌++◌, length, IfSome, slice_index, slice_index_or, slice_set};

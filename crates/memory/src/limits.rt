@@ -43,6 +43,7 @@ pub fn limits_of(mem: &[u64]) -> Option<Limits>
     if mem.len() < HEADER {
         return None;
     }
+    // no From stands between `u64` and `usize`, here and where they are written
     let limits = Limits {
         verifiers: mem[0] as usize,
         places: mem[1] as usize,

@@ -18,6 +18,8 @@ pub fn answer(event: &[u8]) -> Answer
     }
 }
 
+// A length is a `usize`, and a place in an answer a `u64`, between which no From stands.
+
 // The answer to an event that the log's end cuts short after `len` bytes: it is malformed at its end.
 pub fn answer_cut(len: usize) -> Answer
     ensures { (l : Limits) (s : State) → answer_of result ≡ answering l s (malformed len) }

@@ -15,7 +15,7 @@ pub use packed::Path;
 pub use side::Side;
 pub use times::Timestamp;
 
-// Are these the same words?
+// Are these the same words? A function, for its contract says it of the bytes that a path has.
 pub fn same_words(a: &[u64], b: &[u64]) -> bool
     ensures { result ≡ same_bytes a.now b.now }
 {

@@ -188,7 +188,7 @@ impl<'a> Reader<'a> {
     }
 
     // The rest of a record of this kind: of a key, its value; of a node, its children.
-    // The kind stays the format's number: the second mention of it is compared with the first.
+    // The kind stays the format's number: `record` has just compared its second mention with the first.
     fn contents(&mut self, kind: u8, name: &'a [u8]) -> Option<Contents<'a>>
         ensures { reads_contents kind name.now self.old.rest.now ≡ out (option_map (contents_of name.now) result) self.new.rest.now }
     {

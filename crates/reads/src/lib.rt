@@ -56,6 +56,7 @@ fn child_in(s: &[u64]) -> Child
     if s[0] == 0 {
         return Child::Absent;
     }
+    // words are `u64` and lengths `usize`, between which no From stands; here and below
     let Some(path) = path_from_words(s[1] as usize, &s[2..6]) else {
         return Child::Absent;
     };

@@ -1,4 +1,4 @@
-// What a node knows of one side.
+// What a node knows of one side, by value and with its path packed; what is read of an event lends its bytes instead (`reader::Pointer`).
 use path::Path;
 
 #[derive(Clone, Copy)]

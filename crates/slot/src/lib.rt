@@ -37,7 +37,7 @@ pub const HASH: usize = 146;
 
 pub const MARK: usize = 150;
 
-// How many words a child pointer has.
+// How many words a child pointer has. The first says what it is: 0 absent, 1 in the tree, 2 evicted by Blum; a number, as a kind is.
 pub const POINTER_WORDS: usize = 10;
 
 // Where a node's child pointer on a side is.

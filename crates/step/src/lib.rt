@@ -22,7 +22,7 @@ use sums::element_hash;
 use verifier::{evict_merkle, get, set};
 use wire::Entry;
 
-// The entries of which nothing is summed.
+// The entries of which nothing is summed. `step` takes the others, which would each hand on the same nothing here.
 fn quiet_step(block: &mut [u64], n: usize, entry: Entry<'_>, packed: &Packed) -> Result<(), Failure>
     requires few { 2 ≤ n }
     requires room { length block.old ≡ block_words n }

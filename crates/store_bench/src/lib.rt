@@ -1,4 +1,4 @@
-// The store for C, to be measured: nodes without children at paths of four words.
+// The store for C, to be measured: nodes without children at paths of four words. C has no Option: the number of places stands for none.
 #![tactic(auto)]
 
 ghost use Rattle.std.specs.Prelude.{◌≡◌, true, List, [], ℕ, ◌*◌, ◌<◌, ◌≤◌, length};

@@ -43,7 +43,7 @@ fn fill(rt: &impl Abort, store: &mut Store<'_>) -> Result<(), Fail> {
         assert!(rt; !store.as_ref().is_full());
         assert!(rt; insert(store, k)?);
         assert!(rt; is_stored(store, k)?);
-        assert_eq!(rt; store.as_ref().count(), k as usize + 1);
+        assert_eq!(rt; store.as_ref().count(), usize::from(k) + 1);
     }
     assert!(rt; store.as_ref().is_full());
     assert!(rt; !insert(store, 9)?);
@@ -61,7 +61,7 @@ fn empty(rt: &impl Abort, store: &mut Store<'_>, first: u8, step: u8) -> Result<
         let k = in_turn(first, step, j);
         assert!(rt; take(store, k)?);
         assert!(rt; !take(store, k)?);
-        assert_eq!(rt; store.as_ref().count(), 7 - j as usize);
+        assert_eq!(rt; store.as_ref().count(), 7 - usize::from(j));
         for later in j + 1..8 {
             assert!(rt; is_stored(store, in_turn(first, step, later))?);
         }

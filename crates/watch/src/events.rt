@@ -20,7 +20,7 @@ use wire::{Answer, Entry, Refusal};
 // The words and the limits stand apart here: of words in a `Memory` that is lent to be written, a part lent to be read
 // leaves known only how many they are.
 
-// How the monitor stands.
+// How the monitor stands. No From stands between `usize` and `u64`, here and below.
 fn standing(mem: &[u64], limits: Limits) -> Standing
     requires bounded { Bounded limits }
     requires size { length mem.now ≡ words_for limits }
@@ -76,7 +76,7 @@ pub fn logged(mem: &mut [u64], limits: Limits, verifier: u64, entry: Entry<'_>) 
     match step(
         &mut mem[a..past],
         limits.places,
-        verifier as u8,
+        verifier as u8, // there are fewer than 65
         &secret,
         entry,
         &packed,

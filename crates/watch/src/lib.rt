@@ -35,6 +35,8 @@ pub fn take(mem: &mut [u64], event: &[u8]) -> Answer
     }
 }
 
+// A length is a `usize`, and a place in an answer a `u64`, between which no From stands.
+
 // Takes an event that the log's end cuts short after `len` bytes: it is malformed at its end. It needs no memory, and writes none.
 pub fn take_cut(len: usize) -> Answer
     ensures { (l : Meant) (es : List Happened) (mem : List ℕ) → GoodLimits all_entries l → Kept l mem (state l es) → Answers l es (malformed len) mem result }
