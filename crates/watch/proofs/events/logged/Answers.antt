@@ -1,10 +1,12 @@
-use Rattle.std.proofs.Common.{◌≡◌, ℕ, ◌<◌, true, false, List, [], length, sym, refl, ap, ◌∙◌, subst, arith}
+use Rattle.std.proofs.Common.{◌≡◌, ℕ, ◌<◌, true, false, List, [], length, sym, refl, ap, ◌∙◌, subst, arith, rules}
 use Rattle.std.proofs.lemmas.Bool.{le-ltb}
 use Rattle.model.specs.Verifier.{Verifier, verifier_step}
-use Rattle.model.specs.Monitor.{state, verifier_at, is_add}
+use Rattle.model.specs.Monitor.{Limits as Meant, Event as Happened, State, state, verifier_at, is_add}
 use Rattle.order.proofs.Sums.{settled}
 use Rattle.step.specs.Effects.{Goes}
 use Rattle.wire.specs.Meaning.{entry_of}
+use Rattle.wire.specs.declared.parts.Answer.{Answer}
+use Rattle.watch.specs.Promise.{Responds}
 use Rattle.block.specs.Blocks.{Keeps}
 use Rattle.memory.specs.Ranges.{with_rest}
 use Rattle.memory.proofs.Spans.{block_within}
@@ -53,10 +55,14 @@ returns-in-Err c = record {
       (omega (arith, c.in-Err.ensures.listed)));
 }
 
+-- the words that were lent, once they are given back
+given_back : (l : Meant) (s : State) (e : Happened) (x m : List ℕ) (r : Answer) → x ≡ m → Responds l s e m r → Responds l s e x r
+given_back l s e x m r q h = subst (λ (k : List ℕ). Responds l s e k r) (sym q) h
+
 pub returns-in-Ok-step : goal.returns-in-Ok-step
 returns-in-Ok-step c = record {
   same = λ h. absurd (c.finish.ensures.looked h);
-  responds = λ l es g a k parts.
+  responds = λ l es g a k parts. given_back l (state l es) _ _ c.finish.new.memory.words.now c.finish.result (search rules) (
       let s = state l es in
       let m = c.args.mem.now in
       let t = c.args.verifier in
@@ -75,7 +81,7 @@ returns-in-Ok-step c = record {
       let at = c.block_start-a.result in
       let is = c.block_start-a.ensures in
       right_kept l x m s t a k lt at is e ok st c.step.new.block c.in-Ok-step.effect g' c.finish.new.memory.words.now c.finish.result c.verifies_epoch-verifies.result
-      c.verifies_epoch-verifies.ensures (λ s₁ z laid ready. c.finish.ensures.finished l s₁ z a laid ready);
+      c.verifies_epoch-verifies.ensures (λ s₁ z laid ready. c.finish.ensures.finished l s₁ z a laid ready));
 }
 
 pub returns-in-Err-step : goal.returns-in-Err-step
