@@ -12,8 +12,9 @@ ghost use Rattle.watch.specs.Promise.{IsRefused, Responds};
 
 use admission::{Standing, admitted};
 use block::STORE;
+use epochs::{certified_in, is_stopped};
 use finish::finish;
-use memory::{CERTIFIED, Limits, Memory, SECRET, STOPPED, block_start};
+use memory::{Limits, Memory, SECRET, STOPPED, block_start};
 use step::step;
 use wire::{Answer, Entry, Refusal};
 
@@ -31,8 +32,8 @@ fn standing(mem: &[u64], limits: Limits) -> Standing
         verifiers: limits.verifiers as u64,
         places: limits.places,
         epochs: limits.epochs as u64,
-        certified: mem[CERTIFIED],
-        stopped: mem[STOPPED] != 0,
+        certified: certified_in(mem),
+        stopped: is_stopped(mem),
     }
 }
 
