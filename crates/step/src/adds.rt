@@ -23,10 +23,8 @@ fn stored<'a>(record: Record<'a>, packed: &Packed) -> (Path, Contents<'a>)
 {
     match record.contents {
         Read::Value(value) => (key_path(record.name), Contents::Data(record.name, value)),
-        Read::Children { .. } => {
-            // each child on its own side
-            (packed.path, Contents::Node(packed.left, packed.right))
-        }
+        // each child on its own side
+        Read::Children { .. } => (packed.path, Contents::Node(packed.left, packed.right)),
     }
 }
 

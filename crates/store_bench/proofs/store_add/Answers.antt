@@ -1,4 +1,4 @@
-use Rattle.std.proofs.Common.{◌≡◌, ℕ, true, List, sym, ◌∙◌, subst, rules}
+use Rattle.std.proofs.Common.{◌≡◌, ℕ, true, List, sym, subst, rules}
 use Rattle.model.specs.Records.{node, no_children}
 use Rattle.model.specs.Verifier.{Stored}
 use Rattle.path.specs.Packs.{path_in}
@@ -11,7 +11,10 @@ back : (n salt : ℕ) (x m : List ℕ) (xs : List Stored) (y : Stored) (r : ℕ)
 back n salt x m xs y r e a = subst (λ (l : List ℕ). Added n salt l xs y r) (sym e) a
 
 pub returns-clause-same : goal.returns-clause-same
-returns-clause-same c = λ h. ?
+returns-clause-same c =
+    unchanged_or c.args.n _ c.args.mem.now c.add.new.self.words.now c.add.result _ (search rules) c.unwrap_or.ensures
+    (rw (c.new-store.ensures.places) at c.add.ensures.within)
+    (rw (c.new-store.ensures.words) at c.add.ensures.unchanged)
 
 pub returns-clause-stored : goal.returns-clause-stored
 returns-clause-stored c = λ xs H h.
@@ -20,6 +23,5 @@ returns-clause-stored c = λ xs H h.
     let m = c.add.new.self.words.now in
     back n salt _ m xs _ _ (search rules)
     (let S = c.new-store.ensures in
-    let stored = rw (S.words, S.places, S.salt) at c.add.ensures.stored in
-    let P : ℕ → Type 0 = λ r. Added n salt m xs (record { rec = node (path_in c.args.len c.args.bits.now) no_children; by_merkle = true }) r in
-    ?)
+    let stored = rw (S.words, S.places, S.salt, c.in-Some.ensures.path.0, c.in-Some.ensures.path.1) at c.add.ensures.stored in
+    stored_or n (λ i. Added n salt m xs (record { rec = node (path_in c.args.len c.args.bits.now) no_children; by_merkle = true }) i) c.add.result c.unwrap_or.result c.unwrap_or.ensures (stored xs H _) h)

@@ -1,4 +1,4 @@
-use Rattle.std.proofs.Common.{List, [], rules}
+use Rattle.std.proofs.Common.{[], rules}
 use Rattle.store.proofs.Lent.{lent_holds}
 use Rattle.store_bench.proofs.store_open.Goals as goal
 
