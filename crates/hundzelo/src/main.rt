@@ -6,10 +6,10 @@ mod rules;
 
 use checking::check_log;
 use failure::Failure;
-use options::{Command, parse};
+use options::{CheckOptions, Command, parse};
 use rules::Rules;
 use std::env;
-use std::io::{BufWriter, Write};
+use std::io::BufWriter;
 use std::process::ExitCode;
 
 const VERSION: &str = "hundzelo 0.1.0";
@@ -39,11 +39,7 @@ fn arguments(rt: &HostRuntime) -> Result<Vec<String>, Failure<'static>> {
         .map_err(|_| Failure::NoMemory("the arguments"))
 }
 
-fn run<'a, W: Write>(
-    rt: &HostRuntime,
-    args: &'a [String],
-    out: &mut W,
-) -> Result<ExitCode, Failure<'a>> {
+fn run<'a>(rt: &HostRuntime, args: &'a [String]) -> Result<ExitCode, Failure<'a>> {
     let words = args
         .iter()
         .skip(1)
@@ -53,14 +49,22 @@ fn run<'a, W: Write>(
     match parse(words.as_slice())? {
         Command::Help => print(rt, HELP),
         Command::Version => print(rt, VERSION),
-        Command::Check(options) => {
-            let summary = check_log::<Rules, _>(rt, options, out)?;
-            if summary.is_wrong() && !options.no_fail {
-                return Ok(ExitCode::FAILURE);
-            }
-            Ok(ExitCode::SUCCESS)
-        }
+        Command::Check(options) => check(rt, options),
     }
+}
+
+// The writer outlives a failure: answers that are still in it are written after what is said of that.
+fn check<'a>(rt: &HostRuntime, options: CheckOptions<'a>) -> Result<ExitCode, Failure<'a>> {
+    let mut out = BufWriter::new(rt.alloc(), rt.stdout()).map_err(|e| Failure::Io(
+        "standard output",
+        e,
+    ))?;
+    let status = match check_log::<Rules, _>(rt, options, &mut out) {
+        Ok(summary) if summary.is_wrong() && !options.no_fail => ExitCode::FAILURE,
+        Ok(_) => ExitCode::SUCCESS,
+        Err(error) => told(rt, error.into()),
+    };
+    Ok(status)
 }
 
 fn print<'a>(rt: &HostRuntime, text: &str) -> Result<ExitCode, Failure<'a>> {
@@ -80,10 +84,5 @@ fn main(rt: HostRuntime) -> ExitCode {
         Ok(args) => args,
         Err(failure) => return told(&rt, failure),
     };
-    // It outlives a failure: answers that are still in it are written after what is said of that.
-    let mut out = match BufWriter::new(rt.alloc(), rt.stdout()) {
-        Ok(out) => out,
-        Err(e) => return told(&rt, Failure::Io("standard output", e)),
-    };
-    run(&rt, args.as_slice(), &mut out).unwrap_or_else(|failure| told(&rt, failure))
+    run(&rt, args.as_slice()).unwrap_or_else(|failure| told(&rt, failure))
 }

@@ -44,8 +44,6 @@ pub fn take_cut(len: usize) -> Answer
 
 // A program that does on each event what `take` and `take_cut` do, over memory that `open` opened, answers after any log as the rules do,
 // leaves its memory as it was at a refusal, and never needs more than the limits say.
-pub fn faithful() -> u8
+pub fn faithful()
     ensures { Faithful }
-{
-    0
-}
+{}
