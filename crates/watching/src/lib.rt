@@ -27,6 +27,7 @@ impl Monitor for Watched {
     ghost answers_cut = { λ old len r new. TakesCut old.memory.items len new.memory.items r };
 
     fn open(alloc: Global, limits: Limits, key: &[u8; 32]) -> Result<Watched, OpenError> {
+        // by hand: neither crate knows the other's limits, and From for two foreign types is refused
         let limits = watch::Limits {
             verifiers: usize::from(limits.verifiers),
             places: usize::from(limits.places),

@@ -21,7 +21,7 @@ impl Random {
     }
 
     pub fn byte(&mut self) -> u8 {
-        (self.number() >> 32 & 0xff) as u8
+        self.number().to_le_bytes()[4]
     }
 
     fn flag(&mut self) -> bool {

@@ -19,9 +19,7 @@ fn written_again(rt: &impl Abort, bytes: &[u8]) -> Result<(), Fail> {
         return Err(Fail::new("it is an event"));
     };
     let mut to = [UNTOUCHED; ROOM];
-    let Some(n) = write_event(&mut to, verifier, entry) else {
-        return Err(Fail::new("there is room"));
-    };
+    let n = write_event(&mut to, verifier, entry).ok_or_else(|| Fail::new("there is room"))?;
     assert!(rt; n <= ROOM);
     assert_eq!(rt; &to[..n], bytes);
     assert!(rt; to[n..].iter().all(|b| *b == UNTOUCHED));

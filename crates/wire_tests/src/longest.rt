@@ -20,9 +20,7 @@ fn longest_set(rt: HostRuntime) -> Result<(), Fail> {
         value: &long,
     };
     let mut to = text(rt.alloc(), LONGEST_EVENT)?;
-    let Some(n) = write_event(&mut to, 1, entry) else {
-        return Err(Fail::new("it fits"));
-    };
+    let n = write_event(&mut to, 1, entry).ok_or_else(|| Fail::new("it fits"))?;
     assert_eq!(rt; n, 9 + 2 * (2 + LONGEST_TEXT));
     assert!(rt; n <= to.len());
     let Ok(
