@@ -7,7 +7,7 @@ use std::io::{ErrorKind, Read};
 
 pub const BUFFER_BYTES: usize = 1_048_576;
 
-// buf[at..end] is read and not yet taken.
+// buf[at..end] is read and not yet taken. An event is taken as one slice; what a `BufReader` lends ends where a read ended.
 #[derive(Drop)]
 pub struct Input<'a, R> {
     name: &'a str,
