@@ -15,7 +15,7 @@ pub fn set_clock(block: &mut [u64], timestamp: Timestamp, last: &Path)
 {
     block[0] = timestamp.epoch;
     block[1] = timestamp.counter;
-    block[2] = last.len as u64;
+    block[2] = last.len as u64; // no From stands between these
     block[3..7].copy_from_slice(&last.bits);
 }
 

@@ -21,7 +21,8 @@ pub const MERKLE_BYTES: usize = 1028;
 
 pub const RECORD_BYTES: usize = 1095;
 
-// The first `n` bytes in these words: eight at a time, and then what is left.
+// The first `n` bytes in these words: eight at a time, and then what is left. Texts and paths lie in words that are lent, which say
+// nothing of how many bytes or bits of them are used: that comes beside them, here and below.
 fn bytes_into(words: &[u64], n: usize, w: &mut Writer)
     requires words { n ≤ 8 * length words.now }
     requires room { w.old.at + n ≤ length w.old.out.now }

@@ -48,7 +48,7 @@ impl Path {
     }
 
     // Is this path before that one in the order of paths?
-    // No derived order, here and below: the same test serves the words of a record, which are no `Path`.
+    // By functions and no derive, here and below: their contracts say it of the paths' bits, and the order is by the bits first.
     pub fn is_before(&self, q: &Path) -> bool
         ensures { result ≡ less_bytes (path_in self.now.len self.now.bits) (path_in q.now.len q.now.bits) }
     {

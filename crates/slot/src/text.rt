@@ -29,7 +29,7 @@ pub fn write_bytes(words: &mut [u64], bytes: &[u8])
     }
 }
 
-// Are these the first `len` bytes in the words? Eight at a time, and then what is left.
+// Are these the first `len` bytes in the words, which don't say how many of them are used? Eight at a time, and then what is left.
 pub fn same_bytes(words: &[u64], len: usize, bytes: &[u8]) -> bool
     requires room { len ≤ 8 * length words.now }
     ensures { result ≡ same_bytes (take len (bytes_in words.now)) bytes.now }
