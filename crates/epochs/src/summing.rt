@@ -13,7 +13,7 @@ pub enum SumOf {
     Evicted,
 }
 
-// Where the sums of an epoch begin.
+// Where the sums of an epoch begin. Bounds are asked by a clause: a ghost field of Limits would ask them of whoever opens.
 pub(crate) fn sum_start(limits: Limits, epoch: u64) -> usize
     requires { Bounded limits }
     ensures start { result ≡ sum_start limits.epochs epoch }

@@ -55,7 +55,7 @@ pub fn limits_of(mem: &[u64]) -> Option<Limits>
     Some(limits)
 }
 
-// Where the block of verifier `t` begins.
+// Where the block of verifier `t` begins. Bounds are asked by a clause: a ghost field of Limits would ask them of whoever opens.
 pub fn block_start(limits: Limits, t: usize) -> usize
     requires bounded { Bounded limits }
     requires within { t < limits.verifiers }

@@ -1,4 +1,5 @@
-// Records by value: where a record is, and what it holds.
+// Records by value: where a record is, and what it holds. What is read of an event lends its bytes instead (`reader::Record` and
+// `reader::Contents`), paths and all.
 ghost use Rattle.slot.specs.Meant.{IsNamed, IsNamed-prop, IsShort, IsShort-prop};
 
 use crate::child::Child;

@@ -16,7 +16,7 @@ use path::{Path, Side};
 use slot::child::Child;
 use slot::{Contents, SLOT_WORDS, write_record};
 
-// Words are `u64` and places `usize`, between which no From stands.
+// Words are `u64` and places `usize`, between which no From stands; nor does one from `u128` to fewer bits.
 
 // The two halves of a product, together: each bit of the word and of the salt moves about half of them.
 fn mix(mixed: u64, word: u64, by: u64) -> u64
