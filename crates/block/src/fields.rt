@@ -18,7 +18,7 @@ pub fn clock(block: &[u64]) -> Timestamp
     }
 }
 
-// The path that the verifier evicted last; the root where no path is in the words, as `set_clock` never leaves them.
+// The path that the verifier evicted last; the root where no path is in the words, which `set_clock` never leaves so.
 pub fn last_evicted(block: &[u64]) -> Path
     requires { 64 ≤ length block.now }
     ensures { (n : ℕ) (v : Verifier) → Keeps n block.now v → path_in result.len result.bits ≡ v.last_evicted }

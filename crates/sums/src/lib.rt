@@ -46,7 +46,7 @@ pub fn secret_out(secret: &[u64], out: &mut [u8])
     Writer::new(out, 0).numbers(secret);
 }
 
-// The hash of an element, keyed with the secret; zeros, and no Option, for what is too long to be one: no event that is read has such.
+// The hash of an element, keyed with the secret; zeros, and no Option, for what is too long to be one: no entry in range has such.
 pub fn element_hash(secret: &[u64], element: &[u8]) -> [u64; 4]
     requires { length secret.now ≡ 4 }
     ensures { length element.now ≤ 1112 → number_in result ≡ hash_of (bytes_in secret.now ++ element.now) }
