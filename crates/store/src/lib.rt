@@ -155,20 +155,19 @@ fn clear(mem: &mut [u64], n: usize)
     }
 }
 
-// The words of a store, lent to be read: `places` records, in chains that the salt decides.
+// The words of a store, lent to be read: `places` records, in chains that the salt decides. A slot can be read where there is one
+// place alone; that there are two is asked where a chain is walked, for one more is that of the free slots.
 #[derive(Clone, Copy)]
 pub struct StoreRef<'a> {
     pub words: &'a [u64],
     pub places: usize,
     pub salt: u64,
-    ghost few: { 2 ≤ places },
     ghost room: { length words.now ≡ 192 * places },
 }
 
 impl<'a> StoreRef<'a> {
     pub fn new(words: &'a [u64], places: usize, salt: u64) -> StoreRef<'a>
-        requires few { 2 ≤ places }
-        requires room { length words.now ≡ 192 * places }
+        requires { length words.now ≡ 192 * places }
         ensures words { result.words.now ≡ words.now }
         ensures places { result.places ≡ places }
         ensures salt { result.salt ≡ salt }
@@ -182,7 +181,8 @@ impl<'a> StoreRef<'a> {
 
     // The slot of the path of `len` bits in these words.
     pub fn find_words(self, len: usize, bits: &[u64]) -> Option<usize>
-        requires { length bits.now ≡ 4 }
+        requires few { 2 ≤ self.places }
+        requires four { length bits.now ≡ 4 }
         ensures within { IfSome result (λ i. i < self.entry.places) }
         ensures walked { Packs len bits.now → Walked self.entry.places self.entry.salt self.entry.words.now len bits.now (place_or self.entry.places result) }
         ensures found { Packs len bits.now → (xs : List Stored) → Holds self.entry.places self.entry.salt self.entry.words.now xs → Found self.entry.places self.entry.words.now xs (path_in len bits.now) (place_or self.entry.places result) }
@@ -192,6 +192,7 @@ impl<'a> StoreRef<'a> {
 
     // The slot of a path.
     pub fn find(self, path: &Path) -> Option<usize>
+        requires { 2 ≤ self.places }
         ensures within { IfSome result (λ i. i < self.entry.places) }
         ensures walked { Walked self.entry.places self.entry.salt self.entry.words.now path.now.len path.now.bits (place_or self.entry.places result) }
         ensures found { (xs : List Stored) → Holds self.entry.places self.entry.salt self.entry.words.now xs → Found self.entry.places self.entry.words.now xs (path_in path.now.len path.now.bits) (place_or self.entry.places result) }
@@ -212,6 +213,7 @@ impl<'a> StoreRef<'a> {
 
     // Is there no room for another record?
     pub fn is_full(self) -> bool
+        requires { 2 ≤ self.places }
         ensures { (salt : ℕ) (xs : List Stored) → Holds self.entry.places salt self.entry.words.now xs → result ≡ nat_le self.entry.places (length xs) }
     {
         first_free(self.words, self.places).is_none()
@@ -219,6 +221,7 @@ impl<'a> StoreRef<'a> {
 
     // How many records are stored.
     pub fn count(self) -> usize
+        requires { 2 ≤ self.places }
         ensures { (salt : ℕ) (xs : List Stored) → Holds self.entry.places salt self.entry.words.now xs → result ≡ length xs }
     {
         stored(self.words, self.places)

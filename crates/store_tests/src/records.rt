@@ -109,3 +109,17 @@ fn children(rt: HostRuntime) {
     let mut mem = [2u64; 768];
     node_and_child(&rt, &mut Store::new(&mut mem, PLACES, SALT));
 }
+
+// A slot is read where it has the only place.
+#[test]
+fn one_place(rt: HostRuntime) {
+    let mut mem = [0; 192];
+    let no_children = Contents::Node(Child::Absent, Child::Absent);
+    slot::write_record(&mut mem[2..], &Path::root(), no_children, true);
+    let store = StoreRef::new(&mem, 1, SALT);
+    assert!(rt; is_node(store, 0));
+    assert!(rt; is_by_merkle(store, 0));
+    assert!(rt; known_hash(store, 0).is_none());
+    assert!(rt; !points_at(store, 0, Side::Left, &Path::root()));
+    assert!(rt; matches!(child_at(store, 0, Side::Right), Child::Absent));
+}
