@@ -1,5 +1,5 @@
 // Events that are some verifier's entries.
-ghost use Rattle.std.specs.Prelude.{◌≡◌, ℕ, ◌≤◌, List, length, nat_eq};
+ghost use Rattle.std.specs.Prelude.{◌≡◌, ℕ, ◌≤◌, List, length, nat_eq, not, ◌==◌, slice_index};
 ghost use Rattle.model.specs.Monitor.{Limits as Meant, Event as Happened, State, logged as logs, entry_code, state};
 ghost use Rattle.model.specs.Order.{all_entries};
 ghost use Rattle.model.specs.Program.{GoodLimits};
@@ -12,7 +12,7 @@ ghost use Rattle.watch.specs.Promise.{IsRefused, Responds};
 
 use admission::{Standing, admitted};
 use block::STORE;
-use epochs::{certified_in, is_stopped};
+use epochs::certified_in;
 use finish::finish;
 use memory::{Limits, Memory, SECRET, STOPPED, block_start};
 use step::step;
@@ -21,11 +21,13 @@ use wire::{Answer, Entry, Refusal};
 // The words and the limits stand apart here: of words in a `Memory` that is lent to be written, a part lent to be read
 // leaves known only how many they are.
 
-// How the monitor stands. No From stands between `usize` and `u64`, here and below.
+// How the monitor stands. Words that no monitor wrote may have another number than 0 or 1 here: they are refused too.
+// No From stands between `usize` and `u64`, here and below.
 fn standing(mem: &[u64], limits: Limits) -> Standing
     requires bounded { Bounded limits }
     requires size { length mem.now ≡ words_for limits }
     ensures places { result.places ≡ limits.places }
+    ensures stopped { result.stopped ≡ not (slice_index mem.now 3 == 0) }
     ensures stands { (l : Meant) (s : State) → Agrees limits l → Kept l mem.now s → Stands result l s }
 {
     Standing {
@@ -33,7 +35,7 @@ fn standing(mem: &[u64], limits: Limits) -> Standing
         places: limits.places,
         epochs: limits.epochs as u64,
         certified: certified_in(mem),
-        stopped: is_stopped(mem),
+        stopped: mem[STOPPED] != 0,
     }
 }
 
