@@ -5,8 +5,8 @@ use crate::key::sum_key;
 use crate::monitor::{Monitor, OpenError};
 use logfile::{Frame, LENGTH_BYTES, Limits, cut_at, frame_at, read_limits};
 use options::CheckOptions;
-use std::fs;
 use std::io::{Read, Write};
+use std::{fs, io};
 use summary::Summary;
 use wire::Answer;
 
@@ -21,26 +21,39 @@ const PROGRESS_EVENTS: u64 = 1_000_000;
 // No first line is longer.
 const FIRST_LINE_BYTES: usize = 64;
 
-// Writes the answers of a monitor to a log, as the options ask for, and says what they come to.
-pub fn check_log<'a, M: Monitor, W: Write>(
+// Writes the answers of a monitor to a log, as the options ask for, and says what they come to. The writer is opened once there are the
+// log, the key and memory for both: what lacks of these is said first. It stays in `out`, and so outlives what is said of a failure.
+pub fn check_log<'a, M: Monitor, W: Write + Drop, F: FnOnce() -> io::Result<W> + Drop>(
     rt: &HostRuntime,
     options: CheckOptions<'a>,
-    out: &mut W,
-) -> Result<Summary, CheckError<'a>> {
+    opener: F,
+    out: &mut Option<W>,
+) -> Result<Summary, CheckError<'a>>
+    requires { F.pre opener }
+{
     if options.log == "-" {
-        return check_source::<M, _, _>(rt, options, STANDARD_INPUT, rt.stdin(), out);
+        return check_source::<M, _, _, _>(rt, options, STANDARD_INPUT, rt.stdin(), opener, out);
     }
     let file = fs::open(rt, options.log).map_err(|e| CheckError::Io(options.log, e))?;
-    check_source::<M, _, _>(rt, options, options.log, file, out)
+    check_source::<M, _, _, _>(rt, options, options.log, file, opener, out)
 }
 
-fn check_source<'a, M: Monitor, R: Read + Drop, W: Write>(
+fn check_source<
+    'a,
+    M: Monitor,
+    R: Read + Drop,
+    W: Write + Drop,
+    F: FnOnce() -> io::Result<W> + Drop,
+>(
     rt: &HostRuntime,
     options: CheckOptions<'a>,
     name: &'a str,
     source: R,
-    out: &mut W,
-) -> Result<Summary, CheckError<'a>> {
+    opener: F,
+    out: &mut Option<W>,
+) -> Result<Summary, CheckError<'a>>
+    requires { F.pre opener }
+{
     let key = sum_key(rt, options.key)?;
     let mut input = Input::new(rt.alloc(), name, source)?;
     let limits = first_line(&mut input)?;
@@ -48,6 +61,7 @@ fn check_source<'a, M: Monitor, R: Read + Drop, W: Write>(
         OpenError::NoMemory => CheckError::NoMemoryForLimits(name),
         OpenError::OutOfRange => CheckError::LimitsOutOfRange(name),
     })?;
+    let out = out.insert(opener().map_err(|e| CheckError::Io(STANDARD_OUTPUT, e))?);
     let summary = check_events(rt, options, &mut input, &mut monitor, out)?;
     rt.eprintln(summary)
         .map_err(|e| CheckError::Io(STANDARD_ERROR, e))?;
@@ -119,11 +133,14 @@ fn next_answer<'a, M: Monitor, R: Read + Drop>(
     }
 }
 
-// Reads until a whole event is held, or the input ends.
+// Reads until a whole event is held, or the input ends: first it may lack its length, then its bytes. A terminal's end may not be its
+// last, so what still lacks bytes then is read for once more.
 fn read_event<'a, R: Read + Drop>(input: &mut Input<'a, R>) -> Result<(), CheckError<'a>> {
-    input.fill(LENGTH_BYTES)?;
-    if let Err(short) = frame_at(input.held()) {
-        input.fill(short.wanted)?;
+    for _ in 0..2 {
+        match frame_at(input.held()) {
+            Ok(_) => break,
+            Err(short) => input.fill(short.wanted)?,
+        }
     }
     Ok(())
 }

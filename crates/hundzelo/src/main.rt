@@ -49,22 +49,19 @@ fn run<'a>(rt: &HostRuntime, args: &'a [String]) -> Result<ExitCode, Failure<'a>
     match parse(words.as_slice())? {
         Command::Help => print(rt, HELP),
         Command::Version => print(rt, VERSION),
-        Command::Check(options) => check(rt, options),
+        Command::Check(options) => Ok(check(rt, options)),
     }
 }
 
 // The writer outlives a failure: answers that are still in it are written after what is said of that.
-fn check<'a>(rt: &HostRuntime, options: CheckOptions<'a>) -> Result<ExitCode, Failure<'a>> {
-    let mut out = BufWriter::new(rt.alloc(), rt.stdout()).map_err(|e| Failure::Io(
-        "standard output",
-        e,
-    ))?;
-    let status = match check_log::<Rules, _>(rt, options, &mut out) {
+fn check(rt: &HostRuntime, options: CheckOptions<'_>) -> ExitCode {
+    let mut out = None;
+    let opener = || BufWriter::new(rt.alloc(), rt.stdout());
+    match check_log::<Rules, _, _>(rt, options, opener, &mut out) {
         Ok(summary) if summary.is_wrong() && !options.no_fail => ExitCode::FAILURE,
         Ok(_) => ExitCode::SUCCESS,
         Err(error) => told(rt, error.into()),
-    };
-    Ok(status)
+    }
 }
 
 fn print<'a>(rt: &HostRuntime, text: &str) -> Result<ExitCode, Failure<'a>> {

@@ -8,6 +8,7 @@ use checking::{CheckError, Monitor, OpenError};
 use logfile::Limits;
 use options::CheckOptions;
 use std::alloc::Global;
+use std::io;
 use std::io::Write;
 use summary::Summary;
 use watch::{open, take, take_cut, words_needed};
@@ -51,10 +52,38 @@ impl Monitor for Watched {
 }
 
 // Writes the answers to a log, as the options ask for, and says what they come to.
-pub fn check_log<'a, W: Write>(
+pub fn check_log<'a, W: Write + Drop, F: FnOnce() -> io::Result<W> + Drop>(
     rt: &HostRuntime,
     options: CheckOptions<'a>,
-    out: &mut W,
-) -> Result<Summary, CheckError<'a>> {
-    checking::check_log::<Watched, _>(rt, options, out)
+    opener: F,
+    out: &mut Option<W>,
+) -> Result<Summary, CheckError<'a>>
+    requires { F.pre opener }
+{
+    checking::check_log::<Watched, _, _>(rt, options, opener, out)
+}
+
+#[cfg(test)]
+mod tests {
+    use super::Watched;
+    use checking::Monitor;
+    use logfile::Limits;
+    use std::test::Fail;
+    use wire::Answer;
+
+    // A monitor has memory for small limits, and answers its verifier's first entry: that its epoch is done.
+    #[test]
+    fn opens(rt: HostRuntime) -> Result<(), Fail> {
+        let limits = Limits {
+            verifiers: 1,
+            places: 2,
+            epochs: 2,
+        };
+        let Ok(mut monitor) = Watched::open(rt.alloc(), limits, &[7; 32]) else {
+            return Err(Fail::new("there is memory for these limits"));
+        };
+        assert_eq!(rt; monitor.take(&[0, 0, 0, 0, 0, 0, 0, 0, 5]), Answer::Right);
+        assert_eq!(rt; monitor.take_cut(3), Answer::Refused(1, 3));
+        Ok(())
+    }
 }
