@@ -21,8 +21,9 @@ const PROGRESS_EVENTS: u64 = 1_000_000;
 // No first line is longer.
 const FIRST_LINE_BYTES: usize = 64;
 
-// Writes the answers of a monitor to a log, as the options ask for, and says what they come to. The writer is opened once there are the
-// log, the key and memory for both: what lacks of these is said first. It stays in `out`, and so outlives what is said of a failure.
+// Writes the answers of a monitor to a log, as the options ask for, and says what they come to. The writer is opened once the log is
+// open, the key is there, and the limits of the first line are read and have memory: what is wrong with these is said first. It stays in
+// `out`, and so outlives what is said of a failure.
 pub fn check_log<'a, M: Monitor, W: Write + Drop, F: FnOnce() -> io::Result<W> + Drop>(
     rt: &HostRuntime,
     options: CheckOptions<'a>,
