@@ -1,4 +1,7 @@
 // Checks a whole log: its first line, then its events one by one.
+ghost use Rattle.std.specs.Prelude.{◌≡◌, true, false, Ok, IfOk, IfErr, IsSomeAnd};
+ghost use Rattle.checking.specs.Checked.{is_io, Checks, ChecksOpened, GivesNext};
+
 use crate::error::CheckError;
 use crate::input::Input;
 use crate::key::sum_key;
@@ -22,8 +25,8 @@ const PROGRESS_EVENTS: u64 = 1_000_000;
 const FIRST_LINE_BYTES: usize = 64;
 
 // Writes the answers of a monitor to a log, as the options ask for, and says what they come to. The writer is opened once the log is
-// open, the key is there, and the limits of the first line are read and have memory: what is wrong with these is said first. It stays in
-// `out`, and so outlives what is said of a failure.
+// open, the key is there, and the limits of the first line are read and have memory: what is wrong with these is said first, and `out`
+// is as it was. Else it stays in `out`, and so outlives what is said of a failure.
 pub fn check_log<'a, M: Monitor, W: Write + Drop, F: FnOnce() -> io::Result<W> + Drop>(
     rt: &HostRuntime,
     options: CheckOptions<'a>,
@@ -31,6 +34,8 @@ pub fn check_log<'a, M: Monitor, W: Write + Drop, F: FnOnce() -> io::Result<W> +
     out: &mut Option<W>,
 ) -> Result<Summary, CheckError<'a>>
     requires { F.pre opener }
+    ensures unopened { IfErr result (λ e. is_io e ≡ false → out.new ≡ out.old) }
+    ensures checks { IfOk result (λ s. (w : W) × (F.post opener (Ok w) × IsSomeAnd out.new (λ v. ChecksOpened M.answers M.answers_cut M.opened options.entry.quiet (W.contents w) s (W.contents v)))) }
 {
     if options.log == "-" {
         return check_source::<M, _, _, _>(rt, options, STANDARD_INPUT, rt.stdin(), opener, out);
@@ -54,6 +59,8 @@ fn check_source<
     out: &mut Option<W>,
 ) -> Result<Summary, CheckError<'a>>
     requires { F.pre opener }
+    ensures unopened { IfErr result (λ e. is_io e ≡ false → out.new ≡ out.old) }
+    ensures checks { IfOk result (λ s. (w : W) × (F.post opener (Ok w) × IsSomeAnd out.new (λ v. ChecksOpened M.answers M.answers_cut M.opened options.entry.quiet (W.contents w) s (W.contents v)))) }
 {
     let key = sum_key(rt, options.key)?;
     let mut input = Input::new(rt.alloc(), name, source)?;
@@ -90,7 +97,10 @@ fn check_events<'a, M: Monitor, R: Read + Drop, W: Write>(
     input: &mut Input<'a, R>,
     monitor: &mut M,
     out: &mut W,
-) -> Result<Summary, CheckError<'a>> {
+) -> Result<Summary, CheckError<'a>>
+    ensures failed { IfErr result (λ e. is_io e ≡ true) }
+    ensures checks { IfOk result (λ s. Checks M.answers M.answers_cut options.entry.quiet monitor.old (W.contents out.old) s monitor.new (W.contents out.new)) }
+{
     let unwritten = |e| CheckError::Io(STANDARD_OUTPUT, e);
     let mut summary = Summary::new();
     // Reading on until the input ends has no measure. No log has more events than this.
@@ -115,7 +125,10 @@ fn check_events<'a, M: Monitor, R: Read + Drop, W: Write>(
 fn next_answer<'a, M: Monitor, R: Read + Drop>(
     input: &mut Input<'a, R>,
     monitor: &mut M,
-) -> Result<Option<Answer>, CheckError<'a>> {
+) -> Result<Option<Answer>, CheckError<'a>>
+    ensures failed { IfErr result (λ e. is_io e ≡ true) }
+    ensures gives { IfOk result (λ r. GivesNext M.answers M.answers_cut monitor.old r monitor.new) }
+{
     read_event(input)?;
     let held = input.held();
     match frame_at(held) {
@@ -129,14 +142,19 @@ fn next_answer<'a, M: Monitor, R: Read + Drop>(
             let cut = cut_at(held);
             let len = held.len();
             input.consume(len);
-            Ok(cut.map(|len| monitor.take_cut(len)))
+            let Some(len) = cut else {
+                return Ok(None);
+            };
+            Ok(Some(monitor.take_cut(len)))
         }
     }
 }
 
 // Reads until a whole event is held, or the input ends: first it may lack its length, then its bytes. A terminal's end may not be its
 // last, so what still lacks bytes then is read for once more.
-fn read_event<'a, R: Read + Drop>(input: &mut Input<'a, R>) -> Result<(), CheckError<'a>> {
+fn read_event<'a, R: Read + Drop>(input: &mut Input<'a, R>) -> Result<(), CheckError<'a>>
+    ensures { IfErr result (λ e. is_io e ≡ true) }
+{
     for _ in 0..2 {
         match frame_at(input.held()) {
             Ok(_) => break,

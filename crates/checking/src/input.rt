@@ -1,5 +1,6 @@
 // An input, with the part of it that is held in a buffer of fixed size.
-ghost use Rattle.std.specs.Prelude.{◌≡◌, ℕ, ◌+◌, ◌-◌, ◌<◌, ◌≤◌, min, length, take, IfOk, OnOk, slice_index, slice_range, vec_len};
+ghost use Rattle.std.specs.Prelude.{◌≡◌, ℕ, ◌+◌, ◌-◌, ◌<◌, ◌≤◌, true, min, length, take, IfOk, IfErr, OnOk, slice_index, slice_range, vec_len};
+ghost use Rattle.checking.specs.Checked.{is_io};
 
 use crate::error::CheckError;
 use std::alloc::Global;
@@ -56,7 +57,9 @@ impl<'a, R: Read + Drop> Input<'a, R> {
     }
 
     // Reads until at least `wanted` bytes are held, or the input ends.
-    pub fn fill(&mut self, wanted: usize) -> Result<(), CheckError<'a>> {
+    pub fn fill(&mut self, wanted: usize) -> Result<(), CheckError<'a>>
+        ensures { IfErr result (λ e. is_io e ≡ true) }
+    {
         if wanted > BUFFER_BYTES - self.at {
             self.move_to_front();
         }
@@ -69,7 +72,9 @@ impl<'a, R: Read + Drop> Input<'a, R> {
     }
 
     // Takes the next n bytes, or all to the input's end.
-    pub fn skip(&mut self, n: usize) -> Result<(), CheckError<'a>> {
+    pub fn skip(&mut self, n: usize) -> Result<(), CheckError<'a>>
+        ensures { IfErr result (λ e. is_io e ≡ true) }
+    {
         let mut left = n - self.consume(n);
         while left > 0 {
             self.move_to_front();
@@ -96,6 +101,7 @@ impl<'a, R: Read + Drop> Input<'a, R> {
     fn read_once(&mut self) -> Result<usize, CheckError<'a>>
         ensures start { self.new.at ≡ self.old.at }
         ensures end { IfOk result (λ n. self.new.end ≡ self.old.end + n) }
+        ensures failed { IfErr result (λ e. is_io e ≡ true) }
         ensures bytes { take self.old.end self.new.buf.items ≡ take self.old.end self.old.buf.items }
     {
         // Reading on while interrupted has no measure. No machine is interrupted as often as this.

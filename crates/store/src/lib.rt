@@ -155,8 +155,8 @@ fn clear(mem: &mut [u64], n: usize)
     }
 }
 
-// The words of a store, lent to be read: `places` records, in chains that the salt decides. A slot can be read where there is one
-// place alone; that there are two is asked where a chain is walked, for one more is that of the free slots.
+// The words of a store, lent to be read: `places` records, in chains that the salt decides. A slot can be read where it has the only
+// place. What walks a chain asks for two: of as many chains as places, the last is that of the free slots.
 #[derive(Clone, Copy)]
 pub struct StoreRef<'a> {
     pub words: &'a [u64],

@@ -1,6 +1,8 @@
 // Checks a log file by all verifiers, over memory of its own.
 #![tactic(auto)]
 
+ghost use Rattle.std.specs.Prelude.{◌≡◌, false, Ok, IfOk, IfErr, IsSomeAnd};
+ghost use Rattle.checking.specs.Checked.{is_io, ChecksOpened};
 ghost use Rattle.watch.specs.Whole.{Takes};
 ghost use Rattle.watching.specs.Watching.{Opens, TakesCut};
 
@@ -51,7 +53,8 @@ impl Monitor for Watched {
     }
 }
 
-// Writes the answers to a log, as the options ask for, and says what they come to.
+// Writes the answers to a log, as the options ask for, and says what they come to: what `watch` answered, one event after the other, over
+// words that it had opened.
 pub fn check_log<'a, W: Write + Drop, F: FnOnce() -> io::Result<W> + Drop>(
     rt: &HostRuntime,
     options: CheckOptions<'a>,
@@ -59,17 +62,50 @@ pub fn check_log<'a, W: Write + Drop, F: FnOnce() -> io::Result<W> + Drop>(
     out: &mut Option<W>,
 ) -> Result<Summary, CheckError<'a>>
     requires { F.pre opener }
+    ensures unopened { IfErr result (λ e. is_io e ≡ false → out.new ≡ out.old) }
+    ensures checks { IfOk result (λ s. (w : W) × (F.post opener (Ok w) × IsSomeAnd out.new (λ v. ChecksOpened ⟦<Watched as Monitor>⟧.answers ⟦<Watched as Monitor>⟧.answers_cut ⟦<Watched as Monitor>⟧.opened options.entry.quiet (W.contents w) s (W.contents v)))) }
 {
     checking::check_log::<Watched, _, _>(rt, options, opener, out)
 }
 
 #[cfg(test)]
 mod tests {
-    use super::Watched;
-    use checking::Monitor;
+    use super::{Watched, check_log};
+    use checking::{CheckError, Monitor};
     use logfile::Limits;
+    use options::CheckOptions;
+    use std::io::Write;
     use std::test::Fail;
+    use summary::Summary;
     use wire::Answer;
+
+    // A writer that is there is lent by a closure that has it.
+    fn lent<'a, W: Write>(
+        rt: &HostRuntime,
+        options: CheckOptions<'a>,
+        out: &mut W,
+    ) -> Result<Summary, CheckError<'a>> {
+        check_log(rt, options, move || Ok(out), &mut None)
+    }
+
+    #[test]
+    fn tells_that_no_log_is_there(rt: HostRuntime) {
+        let options = CheckOptions {
+            log: "no such log",
+            key: None,
+            quiet: false,
+            progress: false,
+            no_fail: false,
+        };
+        let mut out = Vec::new(rt.alloc());
+        assert!(rt;
+            matches!(
+                lent(&rt, options, &mut out),
+                Err(CheckError::Io("no such log", _))
+            )
+        );
+        assert_eq!(rt; out.len(), 0);
+    }
 
     // A monitor has memory for small limits, and answers its verifier's first entry: that its epoch is done.
     #[test]
