@@ -1,5 +1,5 @@
 // What the node above an evicted record knows of it.
-ghost use Rattle.std.specs.Prelude.{◌≡◌, ◌≤◌};
+ghost use Rattle.std.specs.Prelude.{◌≡◌};
 ghost use Rattle.model.specs.Verifier.{Verifier};
 ghost use Rattle.path.specs.Packs.{path_in};
 ghost use Rattle.store.specs.Stores.{Contains};
@@ -21,7 +21,6 @@ pub struct Link {
 
 // Does the node at `above` point at the path, not by Blum?
 pub fn link_to(store: StoreRef<'_>, path: &Path, above: &Path) -> Result<Link, Failure>
-    requires { 2 ≤ store.places }
     ensures within { LinkWithin store.entry.places result }
     ensures led { LinkLed store.entry.places store.entry.salt store.entry.words.now above.now.len above.now.bits result }
     ensures linked { (v : Verifier) → Contains store.entry v.store → Linked store.entry.places store.entry.words.now v (path_in path.now.len path.now.bits) (path_in above.now.len above.now.bits) result }

@@ -21,7 +21,6 @@ use store::StoreRef;
 
 // May what is at `path` be evicted by Merkle, under the node at `above`?
 pub fn may_evict_merkle(store: StoreRef<'_>, path: &Path, above: &Path) -> Result<Edge, Failure>
-    requires { 2 ≤ store.places }
     ensures within { Within store.entry.places result }
     ensures led { Led store.entry path.now above.now result }
     ensures may { (t : ℕ) (v : Verifier) → Contains store.entry v.store → May store.entry t v (path_in path.now.len path.now.bits) (path_in above.now.len above.now.bits) result }
@@ -87,7 +86,6 @@ pub fn may_add_merkle(
     candidate: Candidate<'_>,
     parent: &Path,
 ) -> Result<Adding, Failure>
-    requires { 2 ≤ store.places }
     ensures within { AboveWithin store.entry.places result }
     ensures led { AboveLed store.entry parent.now result }
     ensures may { (t : ℕ) (v : Verifier) (x : Record) → Contains store.entry v.store → Told x candidate.entry → MayAdd store.entry t v x (path_in parent.now.len parent.now.bits) result }

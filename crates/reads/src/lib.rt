@@ -100,8 +100,7 @@ pub fn points_at(store: StoreRef<'_>, i: usize, side: Side, path: &Path) -> bool
 
 // Is what the ten words of a pointer point at stored, added by Merkle?
 fn points_at_merkle(store: StoreRef<'_>, s: &[u64]) -> bool
-    requires few { 2 ≤ store.places }
-    requires ten { length s.now ≡ 10 }
+    requires { length s.now ≡ 10 }
     ensures { (xs : List Stored) → Contains store.entry xs → PointerPacks s.now → result ≡ points_at_merkle xs (pointer_in s.now) }
 {
     if s[0] == 0 {
@@ -115,8 +114,7 @@ fn points_at_merkle(store: StoreRef<'_>, s: &[u64]) -> bool
 
 // Does the record in slot `i` point at something that is stored, added by Merkle?
 pub fn has_merkle_child(store: StoreRef<'_>, i: usize) -> bool
-    requires few { 2 ≤ store.places }
-    requires within { i < store.places }
+    requires { i < store.places }
     ensures { (xs : List Stored) → Contains store.entry xs → Slot (slot_of store.entry i) → result ≡ has_merkle_child xs (stored_of store.entry i).rec }
 {
     let slot = store.slot(i);

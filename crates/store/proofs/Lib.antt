@@ -1,4 +1,5 @@
 pub mod Members
+pub mod Walks
 pub mod Held
 pub mod Edits
 pub mod Opened

@@ -1,7 +1,7 @@
 // Records in lent memory: found, added, changed and removed. A record's place takes 192 words.
 #![tactic(auto)]
 
-ghost use Rattle.std.specs.Prelude.{◌≡◌, ℕ, ◌+◌, ◌-◌, ◌*◌, ◌%◌, ◌^◌, ◌<◌, ◌≤◌, true, false, List, [], ◌∷◌, length, IfSome, IsSome, Some, None, bit_xor, nat_le, slice_index};
+ghost use Rattle.std.specs.Prelude.{◌≡◌, ℕ, ◌+◌, ◌-◌, ◌*◌, ◌%◌, ◌^◌, ◌<◌, ◌≤◌, true, false, List, [], ◌∷◌, length, IfSome, IsSome, Some, None, bit_or, bit_xor, nat_le, slice_index};
 ghost use Rattle.model.specs.Records.{data_record, node, with_child, children_of, is_data, merkle_hash};
 ghost use Rattle.model.specs.Verifier.{Stored, without, updated};
 ghost use Rattle.path.specs.Packs.{path_in, Packs, Fit};
@@ -9,7 +9,7 @@ ghost use Rattle.path.specs.Sides.{side_number};
 ghost use Rattle.slot.specs.Layout.{number_in, slot_key, slot_words, Slot};
 ghost use Rattle.slot.specs.Meant.{child_meant, record_meant, IsNamed, IsShort};
 ghost use Rattle.index.specs.Chains.{place_or};
-ghost use Rattle.store.specs.Holding.{halves, home, slot_at, stored_at, Holds, Found, Walked, Added};
+ghost use Rattle.store.specs.Holding.{halves, home, mixed, slot_at, stored_at, Holds, Found, Walked, Added};
 
 use index::{add, count_in, find_in, take_out};
 use path::{Path, Side};
@@ -26,25 +26,32 @@ fn mix(mixed: u64, word: u64, by: u64) -> u64
     (product % 0x1_0000_0000_0000_0000) as u64 ^ (product >> 64) as u64
 }
 
-// The chain of a path.
-fn home_of(n: usize, salt: u64, len: usize, bits: &[u64]) -> usize
-    requires few { 2 ≤ n }
-    requires four { length bits.now ≡ 4 }
-    ensures home { result ≡ home n salt len bits.now }
-    ensures within { result < n - 1 }
+// What the chain of a path is chosen by.
+fn mixed_of(salt: u64, len: usize, bits: &[u64]) -> u64
+    ensures mixed { result ≡ mixed (bit_or salt 1) (bit_xor salt len) bits.now }
     ensures fit { Fit bits.now }
 {
     let mut mixed = salt ^ len as u64;
     for w in bits {
         mixed = mix(mixed, *w, salt | 1);
     }
-    (mixed % (n as u64 - 1)) as usize
+    mixed
+}
+
+// The chain of a path.
+fn home_of(n: usize, salt: u64, len: usize, bits: &[u64]) -> usize
+    requires few { 2 ≤ n }
+    ensures home { result ≡ home n salt len bits.now }
+    ensures within { result < n - 1 }
+    ensures fit { Fit bits.now }
+{
+    (mixed_of(salt, len, bits) % (n as u64 - 1)) as usize
 }
 
 // The work is done by functions over the words, for that words fit is known of those that are a parameter.
 
-// The slot of the path of `len` bits in these words.
-fn find_words(mem: &[u64], n: usize, salt: u64, len: usize, bits: &[u64]) -> Option<usize>
+// The slot of the path of `len` bits in these words, where there are two places or more.
+pub fn find_words(mem: &[u64], n: usize, salt: u64, len: usize, bits: &[u64]) -> Option<usize>
     requires few { 2 ≤ n }
     requires room { length mem.now ≡ 192 * n }
     requires four { length bits.now ≡ 4 }
@@ -54,6 +61,23 @@ fn find_words(mem: &[u64], n: usize, salt: u64, len: usize, bits: &[u64]) -> Opt
 {
     let b = home_of(n, salt, len, bits);
     find_in(&mem[0..2 * n], &mem[2 * n..192 * n], n, b, len, bits)
+}
+
+// The same with fewer. Nothing is stored then, for the only chain is that of the free slots; but a walk of it may end at a slot.
+fn find_in_few(mem: &[u64], n: usize, salt: u64, len: usize, bits: &[u64]) -> Option<usize>
+    requires few { n < 2 }
+    requires room { length mem.now ≡ 192 * n }
+    requires four { length bits.now ≡ 4 }
+    ensures within { IfSome result (λ i. i < n) }
+    ensures walked { Packs len bits.now → Walked n salt mem.now len bits.now (place_or n result) }
+{
+    if n == 0 {
+        return None;
+    }
+    if mixed_of(salt, len, bits) != 0 {
+        return None;
+    }
+    find_in(&mem[0..2 * n], &mem[2 * n..192 * n], n, 0, len, bits)
 }
 
 // The slot that the next record goes into, if one is free.
@@ -155,8 +179,8 @@ fn clear(mem: &mut [u64], n: usize)
     }
 }
 
-// The words of a store, lent to be read: `places` records, in chains that the salt decides. A slot can be read where it has the only
-// place. What walks a chain asks for two: of as many chains as places, the last is that of the free slots.
+// The words of a store, lent to be read: `places` records, in chains that the salt decides. Of as many chains as places, the last is
+// that of the free slots: nothing is stored with fewer than two places, but a slot can be read where it has the only one.
 #[derive(Clone, Copy)]
 pub struct StoreRef<'a> {
     pub words: &'a [u64],
@@ -181,18 +205,19 @@ impl<'a> StoreRef<'a> {
 
     // The slot of the path of `len` bits in these words.
     pub fn find_words(self, len: usize, bits: &[u64]) -> Option<usize>
-        requires few { 2 ≤ self.places }
-        requires four { length bits.now ≡ 4 }
+        requires { length bits.now ≡ 4 }
         ensures within { IfSome result (λ i. i < self.entry.places) }
         ensures walked { Packs len bits.now → Walked self.entry.places self.entry.salt self.entry.words.now len bits.now (place_or self.entry.places result) }
         ensures found { Packs len bits.now → (xs : List Stored) → Holds self.entry.places self.entry.salt self.entry.words.now xs → Found self.entry.places self.entry.words.now xs (path_in len bits.now) (place_or self.entry.places result) }
     {
+        if self.places < 2 {
+            return find_in_few(self.words, self.places, self.salt, len, bits);
+        }
         find_words(self.words, self.places, self.salt, len, bits)
     }
 
     // The slot of a path.
     pub fn find(self, path: &Path) -> Option<usize>
-        requires { 2 ≤ self.places }
         ensures within { IfSome result (λ i. i < self.entry.places) }
         ensures walked { Walked self.entry.places self.entry.salt self.entry.words.now path.now.len path.now.bits (place_or self.entry.places result) }
         ensures found { (xs : List Stored) → Holds self.entry.places self.entry.salt self.entry.words.now xs → Found self.entry.places self.entry.words.now xs (path_in path.now.len path.now.bits) (place_or self.entry.places result) }
@@ -213,17 +238,21 @@ impl<'a> StoreRef<'a> {
 
     // Is there no room for another record?
     pub fn is_full(self) -> bool
-        requires { 2 ≤ self.places }
         ensures { (salt : ℕ) (xs : List Stored) → Holds self.entry.places salt self.entry.words.now xs → result ≡ nat_le self.entry.places (length xs) }
     {
+        if self.places < 2 {
+            return true;
+        }
         first_free(self.words, self.places).is_none()
     }
 
     // How many records are stored.
     pub fn count(self) -> usize
-        requires { 2 ≤ self.places }
         ensures { (salt : ℕ) (xs : List Stored) → Holds self.entry.places salt self.entry.words.now xs → result ≡ length xs }
     {
+        if self.places < 2 {
+            return 0;
+        }
         stored(self.words, self.places)
     }
 }

@@ -10,7 +10,7 @@ ghost use Rattle.store.specs.Holding.{Added, Found, Holds, Walked};
 use path::path_from_words;
 use slot::Contents;
 use slot::child::Child;
-use store::{Store, StoreRef};
+use store::{Store, find_words};
 
 #[unsafe(no_mangle)]
 pub extern "C" fn store_open(mem: &mut [u64], n: usize)
@@ -28,9 +28,7 @@ pub extern "C" fn store_find(mem: &[u64], n: usize, salt: u64, len: usize, bits:
     requires four { length bits.now ≡ 4 }
     ensures { Packs len bits.now → (xs : List Stored) → Holds n salt mem.now xs → Found n mem.now xs (path_in len bits.now) result }
 {
-    StoreRef::new(mem, n, salt)
-        .find_words(len, bits)
-        .unwrap_or(n)
+    find_words(mem, n, salt, len, bits).unwrap_or(n)
 }
 
 // Its slot; `n` if no path is in these words, or no place is left.

@@ -2,6 +2,8 @@
 #![tactic(auto)]
 
 #[cfg(test)]
+mod few;
+#[cfg(test)]
 mod orders;
 #[cfg(test)]
 mod records;

@@ -14,7 +14,6 @@ use store::{Store, StoreRef};
 
 // The slot of a key's record, if it is in the store.
 fn slot_of(store: StoreRef<'_>, key: &[u8]) -> Option<usize>
-    requires { 2 ≤ store.places }
     ensures within { KeySlot store.entry.places result }
     ensures found { (xs : List Stored) → Contains store.entry xs → KeyAt store.entry xs key.now result }
 {
