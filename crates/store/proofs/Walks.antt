@@ -18,12 +18,13 @@ Ends n salt m k ws r =
     (is : List ℕ) → Chain n (part 0 (2 * n) m) (get_or (part 0 (2 * n) m) (home n salt k ws) 0) is → length is ≤ n
     → r ≡ get_or is (position (λ i. says k ws (slot_at n m i)) is) n
 
--- as it was found in chain b of the words before the slots, and in those after
+-- the same as `find_in` says it: chain b in the words before the slots, and the slots in the words after
 abbrev pub Ended : ℕ → List ℕ → ℕ → List ℕ → ℕ → ℕ → Type 0
 Ended n m k ws b r =
     (is : List ℕ) → Chain n (take (2 * n - 0) m) (get_or (take (2 * n - 0) m) b 0) is → length is ≤ n
     → r ≡ get_or is (position (says_at k ws (part (2 * n) (192 * n - 2 * n) m)) is) n
 
+-- what `find_in` says of the path's chain is where its walk ends
 pub ends : (n salt : ℕ) (m : List ℕ) (k : ℕ) (ws : List ℕ) (b r : ℕ) → b ≡ home n salt k ws → Ended n m k ws b r → Ends n salt m k ws r
 ends n salt m k ws b r e h is c l =
     let z : 2 * n - 0 ≡ 2 * n = omega arith in
@@ -54,7 +55,7 @@ pub ends_nowhere : (salt : ℕ) (m : List ℕ) (k : ℕ) (ws : List ℕ) → End
 ends_nowhere salt m k ws [] c l = refl
 ends_nowhere salt m k ws (i ∷ is) c l = absurd (omega arith)
 
--- nor with the only place, where the chain isn't that of the free slots
+-- nor with one place, unless the chain is that of the free slots
 pub ends_outside : (salt : ℕ) (m : List ℕ) (k : ℕ) (ws : List ℕ) → 0 < home 1 salt k ws → Ends 1 salt m k ws 1
 ends_outside salt m k ws h [] c l = refl
 ends_outside salt m k ws h (j ∷ i ∷ is) c l = absurd (omega arith)

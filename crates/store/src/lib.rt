@@ -63,9 +63,9 @@ pub fn find_words(mem: &[u64], n: usize, salt: u64, len: usize, bits: &[u64]) ->
     find_in(&mem[0..2 * n], &mem[2 * n..192 * n], n, b, len, bits)
 }
 
-// The same with fewer. Nothing is stored then, for the only chain is that of the free slots; but a walk of it may end at a slot.
+// The same with fewer. Nothing is stored then, for no chain but that of the free slots is there; but a walk of that may end at a slot.
 fn find_in_few(mem: &[u64], n: usize, salt: u64, len: usize, bits: &[u64]) -> Option<usize>
-    requires few { n < 2 }
+    requires below { n < 2 }
     requires room { length mem.now ≡ 192 * n }
     requires four { length bits.now ≡ 4 }
     ensures within { IfSome result (λ i. i < n) }

@@ -1,7 +1,7 @@
-// What may be asked of a store that is lent to be read, however few places it has: whoever is lent one asks.
+// What may be asked of a store that is lent to be read, however few places it has.
 use blum_conditions::link_to;
 use conditions::{Candidate, Failure, may_add_merkle, may_evict_merkle};
-use path::{Path, Side};
+use path::Path;
 use reads::has_merkle_child;
 use record::key_path;
 use slot::Contents;
@@ -47,17 +47,31 @@ fn no_place(rt: HostRuntime) {
     has_nothing(&rt, StoreRef::new(&[], 0, 7));
 }
 
-// The slot of the only place has the root, but it is in no chain, or in that of the free slots.
+// The slot of the only place has the root, above a key; but it is in no chain, or in that of the free slots.
 #[test]
-fn one_place(rt: HostRuntime) {
+fn one_in_no_chain(rt: HostRuntime) {
     let mut mem = [0; 192];
+    let child = Child::Present(key_path(b"abc"), [5, 6, 7, 8], false);
     for first in [0, 1] {
         mem[0] = first;
-        slot::write_record(&mut mem[2..], &Path::root(), NO_CHILDREN, true);
+        let contents = Contents::Node(child, Child::Absent);
+        slot::write_record(&mut mem[2..], &Path::root(), contents, true);
         let store = StoreRef::new(&mem, 1, 7);
         has_nothing(&rt, store);
         assert!(rt; !has_merkle_child(store, 0));
     }
+}
+
+// With this salt a walk to the root begins at the chain of the free slots.
+#[test]
+fn one_that_is_free(rt: HostRuntime) {
+    let mut mem = [0; 192];
+    mem[0] = 1;
+    slot::write_record(&mut mem[2..], &Path::root(), NO_CHILDREN, true);
+    let store = StoreRef::new(&mem, 1, 0);
+    assert_eq!(rt; store.find(&Path::root()), Some(0));
+    assert_eq!(rt; store.count(), 0);
+    is_nowhere(&rt, store, &key_path(b"abc"));
 }
 
 // The root is the node above a key: before the key is added, and after.

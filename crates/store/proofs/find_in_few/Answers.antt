@@ -15,8 +15,8 @@ returns-then-n-eq0 c = record {
 
 pub returns-then-mixed_of-ne0-clause-walked : goal.returns-then-mixed_of-ne0-clause-walked
 returns-then-mixed_of-ne0-clause-walked c = λ p.
-    let one : 1 ≡ c.args.n = omega (arith, c.if-n-eq0.false, c.requires.few) in
-    let e = home_in_few c.args.n c.args.salt c.args.len c.args.bits.now c.requires.few in
+    let one : 1 ≡ c.args.n = omega (arith, c.if-n-eq0.false, c.requires.below) in
+    let e = home_in_few c.args.n c.args.salt c.args.len c.args.bits.now c.requires.below in
     let ne : 0 < home c.args.n c.args.salt c.args.len c.args.bits.now = omega (arith, e, c.mixed_of.ensures.mixed, c.if-mixed_of-ne0.true) in
     record {
       packing = record { four = c.requires.four; packs = p; fit = c.mixed_of.ensures.fit };
@@ -26,7 +26,7 @@ returns-then-mixed_of-ne0-clause-walked c = λ p.
 
 pub returns-clause-walked : goal.returns-clause-walked
 returns-clause-walked c = λ p.
-    let e = home_in_few c.args.n c.args.salt c.args.len c.args.bits.now c.requires.few in
+    let e = home_in_few c.args.n c.args.salt c.args.len c.args.bits.now c.requires.below in
     let zero : 0 ≡ home c.args.n c.args.salt c.args.len c.args.bits.now = omega (arith, e, c.mixed_of.ensures.mixed, c.if-mixed_of-ne0.false) in
     record {
       packing = record { four = c.requires.four; packs = p; fit = c.mixed_of.ensures.fit };
