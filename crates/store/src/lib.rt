@@ -238,7 +238,8 @@ impl<'a> StoreRef<'a> {
 
     // Is there no room for another record?
     pub fn is_full(self) -> bool
-        ensures { (salt : ℕ) (xs : List Stored) → Holds self.entry.places salt self.entry.words.now xs → result ≡ nat_le self.entry.places (length xs) }
+        ensures full { (salt : ℕ) (xs : List Stored) → Holds self.entry.places salt self.entry.words.now xs → result ≡ nat_le self.entry.places (length xs) }
+        ensures below { self.entry.places < 2 → result ≡ true }
     {
         if self.places < 2 {
             return true;
@@ -248,7 +249,8 @@ impl<'a> StoreRef<'a> {
 
     // How many records are stored.
     pub fn count(self) -> usize
-        ensures { (salt : ℕ) (xs : List Stored) → Holds self.entry.places salt self.entry.words.now xs → result ≡ length xs }
+        ensures count { (salt : ℕ) (xs : List Stored) → Holds self.entry.places salt self.entry.words.now xs → result ≡ length xs }
+        ensures below { self.entry.places < 2 → result ≡ 0 }
     {
         if self.places < 2 {
             return 0;

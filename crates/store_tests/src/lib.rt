@@ -1,4 +1,5 @@
-// Tests of stored records: stores filled, emptied in many orders and filled again; values, hashes and pointers written and read; keys and values compared.
+// Tests of stored records: stores filled, emptied in many orders and filled again; values, hashes and pointers written and read; keys and
+// values compared; stores asked however few places they have.
 #![tactic(auto)]
 
 #[cfg(test)]

@@ -9,5 +9,5 @@ none_left : (n : ℕ) (o : Option ℕ) (b : Bool) → IfSome o (λ i. i < n) →
 none_left n (Some i) b w e = not-true b (sym e) ∙ sym (lt-leb n i w)
 none_left n None b w e = not-false b (sym e) ∙ sym (le-leb n n (omega arith))
 
-pub returns : goal.returns
-returns c = λ salt ss H. none_left c.args.self.places c.first_free.result c.is_none.result c.first_free.ensures.within c.is_none.ensures ∙ c.first_free.ensures.full salt ss H
+pub returns-clause-full : goal.returns-clause-full
+returns-clause-full c = λ salt ss H. none_left c.args.self.places c.first_free.result c.is_none.result c.first_free.ensures.within c.is_none.ensures ∙ c.first_free.ensures.full salt ss H
